@@ -1,0 +1,48 @@
+-- Document 01, "Distances and the bill": what a set costs, its serving nodes and its link loads.
+use mathlib.Core.Bool.{Bool, cond}
+use mathlib.Core.List.{List, [], _∷_}
+use Prim.Native.Nat.{ℕ, zero, suc, _*_, _-_}
+use lib.Dec.{eqb}
+use Rattle.laws.specs.Lists.{sum, least, has, anyOf, those, firstThat}
+use Rattle.model.specs.File.{Tree, Demand}
+use Rattle.model.specs.Tree.{nodes, sites, route, atOrBelow, dist}
+
+-- hits, loads and totals count in thousandths: the 1,000 of the formulas
+abbrev pub thousandths : ℕ
+thousandths = 1000
+
+-- the part of a route up to v inclusive
+unfoldable pub upTo : ℕ → List ℕ → List ℕ
+upTo v [] = []
+upTo v (u ∷ us) = let r = upTo v us in u ∷ cond (eqb u v) [] r
+
+module _ (t : Tree) (d : Demand) where
+  -- f × (1,000 × d(c) − p × d(v)): what the client at c would cost if v served it
+  unfoldable pub price : ℕ → ℕ → ℕ
+  price c v = d .flow c * (thousandths * dist t c - d .hit c * dist t v)
+
+  -- the least over its route: the server, and each member of K
+  unfoldable pub cost : List ℕ → ℕ → ℕ
+  cost k c = least (price c) 0 (those (has k) (route t c))
+
+  -- "The total of K is the sum over all nodes"
+  unfoldable pub total : List ℕ → ℕ
+  total k = sum (cost k) (nodes t)
+
+  -- what the client at c puts on the link above v, at or below which it is: f × (1,000 − p) "if K has a node from c up to
+  -- v inclusive", else f × 1,000
+  unfoldable pub clientLoad : List ℕ → ℕ → ℕ → ℕ
+  clientLoad k v c = d .flow c * cond (anyOf (has k) (upTo v (route t c))) (thousandths - d .hit c) thousandths
+
+  -- the load on the link above v; node 0 has load 0
+  unfoldable pub load : List ℕ → ℕ → ℕ
+  load k zero = 0
+  load k (suc v) = sum (clientLoad k (suc v)) (those (atOrBelow t (suc v)) (nodes t))
+
+  -- "over the links above nodes 1 to n − 1, loads times lengths"
+  unfoldable pub linkTotal : List ℕ → ℕ
+  linkTotal k = sum (λ v. load k v * t .len v) (sites t)
+
+-- the serving node: "the first member of K met going up from the node, itself included, else 0"
+unfoldable pub serving : Tree → List ℕ → ℕ → ℕ
+serving t k v = firstThat (has k) 0 (route t v)

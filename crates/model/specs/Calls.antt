@@ -1,0 +1,135 @@
+-- Document 01, call by call: the order of the rules, the answer, and each buffer after the call, for all arguments.
+-- A name with a prime is a buffer as the call leaves it.
+use mathlib.Core.Path.{_≡_}
+use mathlib.Core.Bool.{Bool, true, false, cond, _&&_}
+use mathlib.Core.List.{List, [], _∷_, _++_, map, flatMap}
+use Prim.Native.Nat.{ℕ, suc, _*_, _≤_}
+use lib.Dec.{ltb}
+use lib.ListN.{length, drop}
+use Rattle.laws.specs.Lists.{range, part}
+use Rattle.model.specs.File.{treeOf, demandOf, countOf, budgetOf, recordAt, recordLength}
+use Rattle.model.specs.Tree.{nodes}
+use Rattle.model.specs.Rules.{Verdict, passed, broken, _then_, fileVerdict, accepted, askSet, scratchWords, askScratch, hasRoom, askBuffers}
+use Rattle.model.specs.Bill.{total, load, serving}
+use Rattle.model.specs.Ties.{ranksBefore}
+use Rattle.model.specs.Plan.{plan, planTotal, row}
+use Rattle.model.specs.Greedy.{greedyNodes, greedyTotal}
+
+-- ---- answers and buffers
+
+-- what a call answers: a value, or the refusal with its number and its record
+pub data Answer (A : Type 0) : Type 0 where
+  answered : A → Answer A
+  refused : ℕ → ℕ → Answer A
+
+abbrev pub answer : {A : Type 0} → Verdict → A → Answer A
+answer passed x = answered x
+answer (broken q i) x = refused q i
+
+-- a buffer after a call: what is written, and "entries beyond those written stay"; a refusal changes nothing
+abbrev pub after : Verdict → List ℕ → List ℕ → List ℕ
+after passed written old = written ++ drop (length written) old
+after (broken q i) written old = old
+
+-- the scratch after a call: the words that question 13 asks for are free, the words beyond them and the length stay; a
+-- refusal changes nothing
+abbrev pub ScratchAfter : Verdict → List ℕ → List ℕ → List ℕ → Type 0
+ScratchAfter passed file old new =
+    (length new ≡ length old) × (drop (scratchWords file) new ≡ drop (scratchWords file) old)
+ScratchAfter (broken q i) file old new = new ≡ old
+
+-- ---- the check for a C host: 0, or the number of the first no among 1 to 11
+
+abbrev pub numberOf : Verdict → ℕ
+numberOf passed = 0
+numberOf (broken q i) = q
+
+unfoldable pub checkNumber : List ℕ → ℕ
+checkNumber file = numberOf (fileVerdict file)
+
+-- ---- the record of a node: its ten bytes, "empty if the file is refused or the node is not below n"
+
+unfoldable pub recordBytes : List ℕ → ℕ → List ℕ
+recordBytes file v = cond (accepted file && ltb v (countOf file)) (part file (recordAt v) recordLength) []
+
+-- ---- the bill of a set
+
+unfoldable pub billVerdict : List ℕ → List ℕ → List ℕ → List ℕ → Verdict
+billVerdict file set servings loads =
+    fileVerdict file
+    then askSet file set
+    then askBuffers (hasRoom (countOf file) servings && hasRoom (countOf file) loads)
+
+pub record Bill (file set servings loads : List ℕ) (a : Answer ℕ) (servings′ loads′ : List ℕ) : Type 0 where
+  pub answers : a ≡ answer (billVerdict file set servings loads) (total (treeOf file) (demandOf file) set)
+  pub servingNodes :
+      servings′ ≡ after (billVerdict file set servings loads) (map (serving (treeOf file) set) (nodes (treeOf file))) servings
+  pub linkLoads :
+      loads′ ≡ after (billVerdict file set servings loads) (map (load (treeOf file) (demandOf file) set) (nodes (treeOf file))) loads
+
+-- ---- the ranking of two sets, and the one that ranks first
+
+pub data Winner : Type 0 where
+  first : Winner
+  second : Winner
+
+unfoldable pub rankVerdict : List ℕ → List ℕ → List ℕ → Verdict
+rankVerdict file k l = fileVerdict file then askSet file k then askSet file l
+
+-- equal sets: first
+unfoldable pub ranking : List ℕ → List ℕ → List ℕ → Answer Winner
+ranking file k l = answer (rankVerdict file k l) (cond (ranksBefore (treeOf file) (demandOf file) l k) second first)
+
+-- the set that an answer names, empty on refusal
+abbrev pub named : Answer Winner → List ℕ → List ℕ → List ℕ
+named (answered first) k l = k
+named (answered second) k l = l
+named (refused q i) k l = []
+
+abbrev pub winner : List ℕ → List ℕ → List ℕ → List ℕ
+winner file k l = named (ranking file k l) k l
+
+-- ---- the plan: k + 1 totals, and k + 1 rows of k node numbers
+
+abbrev pub budgets : List ℕ → List ℕ
+budgets file = range 0 (suc (budgetOf file))
+
+unfoldable pub planTotals : List ℕ → List ℕ
+planTotals file = map (planTotal (treeOf file) (demandOf file)) (budgets file)
+
+unfoldable pub planRows : List ℕ → List ℕ
+planRows file = flatMap (λ b. row (budgetOf file) (plan (treeOf file) (demandOf file) b)) (budgets file)
+
+-- is there room for the totals, and for the rows?
+abbrev pub planRoom : List ℕ → List ℕ → List ℕ → Bool
+planRoom file totals rows = hasRoom (suc (budgetOf file)) totals && hasRoom (suc (budgetOf file) * budgetOf file) rows
+
+unfoldable pub planVerdict : List ℕ → List ℕ → List ℕ → List ℕ → Verdict
+planVerdict file scratch totals rows = fileVerdict file then askScratch file scratch then askBuffers (planRoom file totals rows)
+
+pub record Plan (file scratch totals rows : List ℕ) (v : Verdict) (scratch′ totals′ rows′ : List ℕ) : Type 0 where
+  pub verdict : v ≡ planVerdict file scratch totals rows
+  pub scratchAfter : ScratchAfter v file scratch scratch′
+  pub totalsAfter : totals′ ≡ after v (planTotals file) totals
+  pub rowsAfter : rows′ ≡ after v (planRows file) rows
+
+-- ---- the greedy rule: k + 1 totals, and k nodes in the order taken
+
+unfoldable pub greedyTotals : List ℕ → List ℕ
+greedyTotals file = map (greedyTotal (treeOf file) (demandOf file)) (budgets file)
+
+unfoldable pub greedyRow : List ℕ → List ℕ
+greedyRow file = row (budgetOf file) (greedyNodes (treeOf file) (demandOf file) (budgetOf file))
+
+abbrev pub greedyRoom : List ℕ → List ℕ → List ℕ → Bool
+greedyRoom file totals taken = hasRoom (suc (budgetOf file)) totals && hasRoom (budgetOf file) taken
+
+unfoldable pub greedyVerdict : List ℕ → List ℕ → List ℕ → List ℕ → Verdict
+greedyVerdict file scratch totals taken =
+    fileVerdict file then askScratch file scratch then askBuffers (greedyRoom file totals taken)
+
+pub record Greedy (file scratch totals taken : List ℕ) (v : Verdict) (scratch′ totals′ taken′ : List ℕ) : Type 0 where
+  pub verdict : v ≡ greedyVerdict file scratch totals taken
+  pub scratchAfter : ScratchAfter v file scratch scratch′
+  pub totalsAfter : totals′ ≡ after v (greedyTotals file) totals
+  pub takenAfter : taken′ ≡ after v (greedyRow file) taken

@@ -1,0 +1,10 @@
+pub mod File
+pub mod Tree
+pub mod Rules
+pub mod Bill
+pub mod Ties
+pub mod Plan
+pub mod Greedy
+pub mod Calls
+pub mod Report
+pub mod Cases

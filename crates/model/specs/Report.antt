@@ -1,0 +1,125 @@
+-- Document 01, "Report": demand 3 as one record, the report call, and the text that the program prints.
+use mathlib.Core.Path.{_≡_}
+use mathlib.Core.Bool.{Bool, true, false, _&&_, not}
+use mathlib.Core.List.{List, [], _∷_, _++_, map, flatMap}
+use Prim.Native.Nat.{ℕ, zero, suc, _+_, _*_, _/_, _%_, _≤_}
+use lib.Dec.{leb, ltb, eqb}
+use lib.ListN.{length, take, getD}
+use Rattle.laws.specs.Lists.{part, those}
+use Rattle.model.specs.File.{treeOf, demandOf, countOf, budgetOf}
+use Rattle.model.specs.Tree.{height}
+use Rattle.model.specs.Rules.{Verdict, passed, broken, _then_, fileVerdict, isSet, askScratch, askBuffers, askProgram}
+use Rattle.model.specs.Bill.{total, linkTotal}
+use Rattle.model.specs.Ties.{tiesBefore}
+use Rattle.model.specs.Plan.{plan, planTotal}
+use Rattle.model.specs.Greedy.{greedyTotal}
+use Rattle.model.specs.Calls.{after, ScratchAfter, budgets, planTotals, planRows, planRoom, greedyTotals, greedyRow, greedyRoom}
+
+-- ---- demand 3
+
+-- what the report of a file owes at budget b, of the set that it holds there and of its two totals
+pub record HoldsOptimum (file : List ℕ) (b : ℕ) (held : List ℕ) (total′ greedy′ : ℕ) : Type 0 where
+  -- "a set of at most b nodes"
+  pub isASet : isSet (treeOf file) held ≡ true
+  pub withinBudget : length held ≤ b
+  -- "and its exact total"
+  pub exactTotal : total′ ≡ total (treeOf file) (demandOf file) held
+  -- "that total is also the sum over links of load times length"
+  pub overLinks : total′ ≡ linkTotal (treeOf file) (demandOf file) held
+  -- "every other set of at most b nodes costs at least as much"
+  pub noRivalLess : (l : List ℕ) → isSet (treeOf file) l ≡ true → length l ≤ b → total′ ≤ total (treeOf file) (demandOf file) l
+  -- "and one that costs the same comes later in the order of ties"
+  pub rivalsLater : (l : List ℕ) → isSet (treeOf file) l ≡ true → length l ≤ b → (l ≡ held → ⊥)
+      → total (treeOf file) (demandOf file) l ≡ total′ → tiesBefore (treeOf file) held l ≡ true
+  -- "exactly the total that the greedy rule reaches in at most b steps"
+  pub greedysTotal : greedy′ ≡ greedyTotal (treeOf file) (demandOf file) b
+  -- "never smaller than the set's"
+  pub greedyNoLess : total′ ≤ greedy′
+
+-- "the set of a row is its numbers other than 0": row b of rows of k numbers
+unfoldable pub setOfRow : ℕ → List ℕ → ℕ → List ℕ
+setOfRow k rows b = those (λ v. not (eqb v 0)) (part rows (b * k) k)
+
+-- demand 3: the record at every budget, of the buffers as the report call leaves them
+abbrev pub DemandThree : List ℕ → List ℕ → List ℕ → List ℕ → Type 0
+DemandThree file totals rows greedys =
+    (b : ℕ) → b ≤ budgetOf file → HoldsOptimum file b (setOfRow (budgetOf file) rows b) (getD totals b 0) (getD greedys b 0)
+
+-- ---- the report call: the plan's and the greedy rule's answers together
+
+unfoldable pub reportVerdict : List ℕ → List ℕ → List ℕ → List ℕ → List ℕ → List ℕ → Verdict
+reportVerdict file scratch totals rows greedys taken =
+    fileVerdict file
+    then askScratch file scratch
+    then askBuffers (planRoom file totals rows && greedyRoom file greedys taken)
+
+pub record Report (file scratch totals rows greedys taken : List ℕ) (v : Verdict) (scratch′ totals′ rows′ greedys′ taken′ : List ℕ) : Type 0 where
+  pub verdict : v ≡ reportVerdict file scratch totals rows greedys taken
+  pub scratchAfter : ScratchAfter v file scratch scratch′
+  pub totalsAfter : totals′ ≡ after v (planTotals file) totals
+  pub rowsAfter : rows′ ≡ after v (planRows file) rows
+  pub greedysAfter : greedys′ ≡ after v (greedyTotals file) greedys
+  pub takenAfter : taken′ ≡ after v (greedyRow file) taken
+  pub demandThree : v ≡ passed → DemandThree file totals′ rows′ greedys′
+
+-- ---- the text: numbers in decimal, single spaces, a newline
+
+-- the digits of x, at most k of them
+unfoldable pub digits : ℕ → ℕ → List ℕ
+digits zero x = []
+digits (suc k) x = elim (ltb x 10) as (λ _. List ℕ) [ true ↦ (48 + x) ∷ [] | false ↦ digits k (x / 10) ++ ((48 + x % 10) ∷ []) ]
+
+-- x has fewer than x + 2 digits
+unfoldable pub decimal : ℕ → List ℕ
+decimal x = digits (suc x) x
+
+-- words with a space between two, and a newline
+unfoldable pub line : List (List ℕ) → List ℕ
+line [] = 10 ∷ []
+line (w ∷ ws) = w ++ flatMap (λ u. 32 ∷ u) ws ++ (10 ∷ [])
+
+-- "b, plan total, greedy total, the plan's nodes", for each budget
+unfoldable pub reportText : List ℕ → List ℕ
+reportText file =
+    let t = treeOf file in
+    let d = demandOf file in
+    flatMap (λ b. line (map decimal (b ∷ planTotal t d b ∷ greedyTotal t d b ∷ plan t d b))) (budgets file)
+
+-- the word `refused`
+abbrev pub refusedWord : List ℕ
+refusedWord = 0x72 ∷ 0x65 ∷ 0x66 ∷ 0x75 ∷ 0x73 ∷ 0x65 ∷ 0x64 ∷ []
+
+-- "one line of the same form: refused, the number, the record"
+unfoldable pub refusalText : ℕ → ℕ → List ℕ
+refusalText q i = line (refusedWord ∷ decimal q ∷ decimal i ∷ [])
+
+-- ---- the report program
+
+-- "The program looks at its first 650 input bytes"
+abbrev pub firstLook : ℕ
+firstLook = 650
+
+-- the limits of question 15
+abbrev pub programNodes : ℕ
+programNodes = 64
+
+abbrev pub programHeight : ℕ
+programHeight = 8
+
+abbrev pub programBudget : ℕ
+programBudget = 8
+
+abbrev pub isSmall : List ℕ → Bool
+isSmall s = leb (countOf s) programNodes && leb (height (treeOf s)) programHeight && leb (budgetOf s) programBudget
+
+-- "if all 650 exist it answers 15 before question 1. It asks the rest of 15 right after 11"
+unfoldable pub programVerdict : List ℕ → Verdict
+programVerdict s = askProgram (ltb (length s) firstLook) then fileVerdict s then askProgram (isSmall s)
+
+abbrev pub textOf : Verdict → List ℕ → List ℕ
+textOf passed s = reportText s
+textOf (broken q i) s = refusalText q i
+
+-- what the program prints, for every input
+unfoldable pub programText : List ℕ → List ℕ
+programText input = let s = take firstLook input in textOf (programVerdict s) s

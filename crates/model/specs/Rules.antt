@@ -1,0 +1,110 @@
+-- Document 01, "The questions, in this order": each rule, and what a file, a set, a scratch and a buffer must fulfil.
+-- "Rule N" is question N. The order in which a call asks them is in Calls.
+use mathlib.Core.Bool.{Bool, true, false, _&&_}
+use mathlib.Core.List.{List, [], _∷_}
+use Prim.Native.Nat.{ℕ, zero, suc, _+_, _*_}
+use lib.Dec.{leb, ltb, eqb}
+use lib.ListN.{length, take}
+use Rattle.laws.specs.Lists.{has, same}
+use Rattle.model.specs.File.{Tree, Demand, treeOf, demandOf, mostNodes, mostBudget, mostDepth, mark, version, headerLength, versionOf, countOf, budgetOf, recordAt, lengthField, flowField, hitField}
+use Rattle.model.specs.Tree.{route, depth, height}
+
+-- every question so far has its yes, or the first no: its number and its record
+pub data Verdict : Type 0 where
+  passed : Verdict
+  broken : ℕ → ℕ → Verdict
+
+-- question q, on record i
+abbrev pub ask : ℕ → ℕ → Bool → Verdict
+ask q i true = passed
+ask q i false = broken q i
+
+infixr 10 _then_
+-- the first no of two
+abbrev pub _then_ : Verdict → Verdict → Verdict
+_then_ passed rest = rest
+_then_ (broken q i) rest = broken q i
+
+abbrev pub holds : Verdict → Bool
+holds passed = true
+holds (broken q i) = false
+
+-- ---- rules 7 to 11, record by record
+
+-- 7: "Is the parent 0 (node 0), or node i − 1 or an ancestor of it?"
+unfoldable pub parentHolds : Tree → ℕ → Bool
+parentHolds t zero = eqb (t .parent 0) 0
+parentHolds t (suc i) = has (route t i) (t .parent (suc i))
+
+-- 9: "Is the length 0 (node 0), or at most 1,000?"
+unfoldable pub lengthHolds : Tree → ℕ → Bool
+lengthHolds t zero = eqb (t .len 0) 0
+lengthHolds t (suc i) = leb (t .len (suc i)) (lengthField .most)
+
+-- 8: the depth; 10: the flow; 11: the hit
+unfoldable pub recordVerdict : Tree → Demand → ℕ → Verdict
+recordVerdict t d i =
+    ask 7 i (parentHolds t i)
+    then ask 8 i (leb (depth t i) mostDepth)
+    then ask 9 i (lengthHolds t i)
+    then ask 10 i (leb (d .flow i) (flowField .most))
+    then ask 11 i (leb (d .hit i) (hitField .most))
+
+-- the first n records, each through 7 to 11 before the next
+unfoldable pub recordsVerdict : Tree → Demand → ℕ → Verdict
+recordsVerdict t d zero = passed
+recordsVerdict t d (suc i) = recordsVerdict t d i then recordVerdict t d i
+
+-- ---- rules 1 to 11
+
+-- 1: at least 9 bytes; 2: the mark; 3: the version; 4: n; 5: k; 6: exactly 9 + 10 × n bytes
+unfoldable pub fileVerdict : List ℕ → Verdict
+fileVerdict s =
+    ask 1 0 (leb headerLength (length s))
+    then ask 2 0 (same (take (length mark) s) mark)
+    then ask 3 0 (eqb (versionOf s) version)
+    then ask 4 0 (leb 1 (countOf s) && leb (countOf s) mostNodes)
+    then ask 5 0 (leb (budgetOf s) mostBudget)
+    then ask 6 0 (eqb (length s) (recordAt (countOf s)))
+    then recordsVerdict (treeOf s) (demandOf s) (countOf s)
+
+-- "A file is accepted when no question about the file itself, here 1 to 11, gets a no"
+unfoldable pub accepted : List ℕ → Bool
+accepted s = holds (fileVerdict s)
+
+-- ---- rules 12 to 15, where a call takes them
+
+-- strictly ascending from above a on, each below n
+unfoldable pub ascends : ℕ → ℕ → List ℕ → Bool
+ascends a n [] = true
+ascends a n (v ∷ vs) = ltb a v && ltb v n && ascends v n vs
+
+-- a set: strictly ascending, each from 1 to n − 1
+abbrev pub isSet : Tree → List ℕ → Bool
+isSet t k = ascends 0 (t .count) k
+
+abbrev pub askSet : List ℕ → List ℕ → Verdict
+askSet s k = ask 12 0 (isSet (treeOf s) k)
+
+-- n × (h + 1) × (k + 1) + 4 × n
+unfoldable pub scratchWords : List ℕ → ℕ
+scratchWords s =
+    let t = treeOf s in
+    t .count * (height t + 1) * (budgetOf s + 1) + 4 * t .count
+
+-- "Scratch is enough when 13 passes"
+abbrev pub scratchIsEnough : List ℕ → List ℕ → Bool
+scratchIsEnough s scratch = leb (scratchWords s) (length scratch)
+
+abbrev pub askScratch : List ℕ → List ℕ → Verdict
+askScratch s scratch = ask 13 0 (scratchIsEnough s scratch)
+
+-- has the buffer room for m entries? Buffers are long enough where this holds of each.
+abbrev pub hasRoom : ℕ → List ℕ → Bool
+hasRoom m buffer = leb m (length buffer)
+
+abbrev pub askBuffers : Bool → Verdict
+askBuffers longEnough = ask 14 0 longEnough
+
+abbrev pub askProgram : Bool → Verdict
+askProgram small = ask 15 0 small

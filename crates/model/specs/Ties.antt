@@ -1,0 +1,39 @@
+-- Document 01, "Order of ties", and the rank of a set: by total, then in the order of ties.
+use mathlib.Core.Bool.{Bool, true, false, _&&_, _||_}
+use mathlib.Core.List.{List, [], _∷_}
+use Prim.Native.Nat.{ℕ}
+use lib.Dec.{ltb, eqb}
+use lib.ListN.{length}
+use Rattle.laws.specs.Lists.{has, howMany}
+use Rattle.model.specs.File.{Tree, Demand}
+use Rattle.model.specs.Tree.{sites, atOrBelow}
+use Rattle.model.specs.Bill.{total}
+
+-- the smaller number comes first, and equal ones leave it to the rest
+unfoldable pub smallerFirst : ℕ → ℕ → Bool → Bool
+smallerFirst a b rest = ltb a b || (eqb a b && rest)
+
+-- the set that has the node itself comes first, and if both or neither have it the rest decides
+abbrev pub havingFirst : Bool → Bool → Bool → Bool
+havingFirst true true rest = rest
+havingFirst true false rest = true
+havingFirst false true rest = false
+havingFirst false false rest = rest
+
+module _ (t : Tree) where
+  -- how many members K has at or below v
+  unfoldable pub members : List ℕ → ℕ → ℕ
+  members k v = howMany (atOrBelow t v) k
+
+  -- does K come before L where these nodes are visited in turn? More members at or below come first, then the node itself.
+  unfoldable pub visits : List ℕ → List ℕ → List ℕ → Bool
+  visits k l [] = false
+  visits k l (v ∷ vs) = smallerFirst (members l v) (members k v) (havingFirst (has k v) (has l v) (visits k l vs))
+
+  -- of sets with equal totals: fewest nodes, then the visit of nodes 1, 2, ..
+  unfoldable pub tiesBefore : List ℕ → List ℕ → Bool
+  tiesBefore k l = smallerFirst (length k) (length l) (visits k l (sites t))
+
+  -- K ranks before L
+  unfoldable pub ranksBefore : Demand → List ℕ → List ℕ → Bool
+  ranksBefore d k l = smallerFirst (total t d k) (total t d l) (tiesBefore k l)

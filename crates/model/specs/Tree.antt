@@ -1,0 +1,42 @@
+-- Document 01, "Tree file" and "Distances and the bill": routes, depths and distances in a tree. Node 0 is the server.
+use mathlib.Core.Bool.{Bool}
+use mathlib.Core.List.{List, [], _∷_}
+use Prim.Native.Nat.{ℕ, zero, suc, _-_}
+use lib.ListN.{length}
+use Rattle.laws.specs.Lists.{range, sum, greatest, has}
+use Rattle.model.specs.File.{Tree}
+
+-- from v up to the server, in at most k links
+unfoldable pub climb : (ℕ → ℕ) → ℕ → ℕ → List ℕ
+climb up zero v = 0 ∷ []
+climb up (suc k) zero = 0 ∷ []
+climb up (suc k) (suc v) = suc v ∷ climb up k (up (suc v))
+
+module _ (t : Tree) where
+  -- nodes 0 to n - 1
+  abbrev pub nodes : List ℕ
+  nodes = range 0 (t .count)
+
+  -- nodes 1 to n - 1: the server is never a site
+  abbrev pub sites : List ℕ
+  sites = range 1 (t .count - 1)
+
+  -- v, its parent, .. and the server. Records stand in preorder, so a parent's number is smaller and v links are enough.
+  unfoldable pub route : ℕ → List ℕ
+  route v = climb (t .parent) v v
+
+  -- is c at or below v?
+  unfoldable pub atOrBelow : ℕ → ℕ → Bool
+  atOrBelow v c = has (route c) v
+
+  -- "Depth counts links to the server"
+  unfoldable pub depth : ℕ → ℕ
+  depth v = length (route v) - 1
+
+  -- h, the greatest depth
+  unfoldable pub height : ℕ
+  height = greatest depth nodes
+
+  -- d(v), "the sum of lengths from v to the server". The server's own length is 0 by question 9.
+  unfoldable pub dist : ℕ → ℕ
+  dist v = sum (t .len) (route v)
