@@ -1,6 +1,6 @@
 -- Tests: what a test's value says, and what two tests say together.
 use mathlib.Core.Path.{_≡_, refl}
-use mathlib.Core.Bool.{Bool, true, false, _&&_, _||_, false≢true}
+use mathlib.Core.Bool.{Bool, true, false, cond, _&&_, _||_, true≢false, false≢true}
 
 -- a fact of a test by its two values
 pub by-test {ℓ} : (P : Bool → Type ℓ) (b : Bool) → (b ≡ true → P true) → (b ≡ false → P false) → P b
@@ -8,7 +8,7 @@ by-test P true f g = f refl
 by-test P false f g = g refl
 
 pub not-both : {b : Bool} → b ≡ true → b ≡ false → ⊥
-not-both p q = let z : true ≡ false = cc in absurd (mathlib.Core.Bool.true≢false z)
+not-both p q = let z : true ≡ false = cc in absurd (true≢false z)
 
 pub both : (a b : Bool) → (a && b) ≡ true → (a ≡ true) × (b ≡ true)
 both true b e = (refl, e)
@@ -22,3 +22,7 @@ either X false b f g e = g e
 pub same-test : (a b : Bool) → (a ≡ true → b ≡ true) → (b ≡ true → a ≡ true) → a ≡ b
 same-test true b f g = by-test (λ x. true ≡ x) b (λ _. refl) (λ e. absurd (not-both (f refl) e))
 same-test false b f g = by-test (λ x. false ≡ x) b (λ e. absurd (false≢true (g e))) (λ _. refl)
+
+pub cond-same : {A : Type 0} (b : Bool) (x : A) → cond b x x ≡ x
+cond-same true x = refl
+cond-same false x = refl

@@ -1,3 +1,5 @@
+pub mod Numbers
 pub mod Bools
 pub mod Lists
 pub mod Sums
+pub mod Stores

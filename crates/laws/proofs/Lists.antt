@@ -7,7 +7,7 @@ use native.Mathlib.Nat.{add-zero, add-suc, suc-add}
 use native.Mathlib.Decide.{ℕ-discrete}
 use native.Mathlib.Omega.{arith}
 use lib.Dec.{eqb}
-use lib.ListN.{length}
+use lib.ListN.{length, getD}
 use borrow.Author.Tests.{eq-eqb, ne-eqb, eqb-true}
 use Rattle.laws.specs.Lists.{range, has, those, howMany, same}
 use Rattle.laws.proofs.Bools.{by-test, both}
@@ -61,6 +61,21 @@ range-bounds i zero v h = absurd (has-none v h)
 range-bounds i (suc n) v h =
     has-cases ((i ≤ v) × (v < i + suc n)) i v (range (suc i) n) (λ e. omega arith)
     (λ m. let b = range-bounds (suc i) n v m in omega arith) h
+
+-- ---- lists by a rule
+
+pub map-append : {A B : Type 0} (f : A → B) (xs ys : List A) → map f (xs ++ ys) ≡ map f xs ++ map f ys
+map-append f [] ys = refl
+map-append f (x ∷ xs) ys = ap (λ l. f x ∷ l) (map-append f xs ys)
+
+-- the entry of f over i, i + 1, .. in front of a rest
+pub entry-of-range : (f : ℕ → ℕ) (i n b : ℕ) (rest : List ℕ) → b < n → getD (map f (range i n) ++ rest) b 0 ≡ f (i + b)
+unfolding range
+entry-of-range f i zero b rest h = absurd (omega arith)
+entry-of-range f i (suc n) zero rest h = rw (add-zero i)
+entry-of-range f i (suc n) (suc b) rest h =
+    let e : i + suc b ≡ suc i + b = omega arith in
+    rw e (entry-of-range f (suc i) n b rest (omega arith))
 
 -- ---- filters
 

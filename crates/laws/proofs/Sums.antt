@@ -9,10 +9,10 @@ use Rattle.laws.specs.Lists.{range, sum, has, those}
 use Rattle.laws.proofs.Bools.{by-test}
 use Rattle.laws.proofs.Lists.{has-head, has-tail}
 
-pub sum-mul : (k : ℕ) (f : ℕ → ℕ) (l : List ℕ) → k * sum f l ≡ sum (λ c. k * f c) l
+pub sum-mul : (f : ℕ → ℕ) (k : ℕ) (l : List ℕ) → sum f l * k ≡ sum (λ c. f c * k) l
 unfolding sum
-sum-mul k f [] = omega arith
-sum-mul k f (c ∷ l) = omega (arith, sum-mul k f l)
+sum-mul f k [] = omega arith
+sum-mul f k (c ∷ l) = omega (arith, sum-mul f k l)
 
 pub sum-add : (f g : ℕ → ℕ) (l : List ℕ) → sum (λ c. f c + g c) l ≡ sum f l + sum g l
 unfolding sum

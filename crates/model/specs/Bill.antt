@@ -1,7 +1,7 @@
 -- Document 01, "Distances and the bill": what a set costs, its serving nodes and its link loads.
 use mathlib.Core.Bool.{Bool, cond}
 use mathlib.Core.List.{List, [], _∷_}
-use Prim.Native.Nat.{ℕ, zero, suc, _*_, _-_}
+use Prim.Native.Nat.{ℕ, zero, suc, _*_, _-_, _^_}
 use lib.Dec.{eqb}
 use Rattle.laws.specs.Lists.{sum, least, has, anyOf, those, firstThat}
 use Rattle.model.specs.File.{Tree, Demand}
@@ -10,6 +10,10 @@ use Rattle.model.specs.Tree.{nodes, sites, route, atOrBelow, dist}
 -- hits, loads and totals count in thousandths: the 1,000 of the formulas
 abbrev pub thousandths : ℕ
 thousandths = 1000
+
+-- "below 2^62": what no total reaches
+abbrev pub totalLimit : ℕ
+totalLimit = 2 ^ 62
 
 -- the part of a route up to v inclusive
 unfoldable pub upTo : ℕ → List ℕ → List ℕ

@@ -60,12 +60,16 @@ billVerdict file set servings loads =
     then askSet file set
     then askBuffers (hasRoom (countOf file) servings && hasRoom (countOf file) loads)
 
+abbrev pub servingNodes : List ℕ → List ℕ → List ℕ
+servingNodes file set = map (serving (treeOf file) set) (nodes (treeOf file))
+
+abbrev pub linkLoads : List ℕ → List ℕ → List ℕ
+linkLoads file set = map (load (treeOf file) (demandOf file) set) (nodes (treeOf file))
+
 pub record Bill (file set servings loads : List ℕ) (a : Answer ℕ) (servings′ loads′ : List ℕ) : Type 0 where
   pub answers : a ≡ answer (billVerdict file set servings loads) (total (treeOf file) (demandOf file) set)
-  pub servingNodes :
-      servings′ ≡ after (billVerdict file set servings loads) (map (serving (treeOf file) set) (nodes (treeOf file))) servings
-  pub linkLoads :
-      loads′ ≡ after (billVerdict file set servings loads) (map (load (treeOf file) (demandOf file) set) (nodes (treeOf file))) loads
+  pub servingsAfter : servings′ ≡ after (billVerdict file set servings loads) (servingNodes file set) servings
+  pub loadsAfter : loads′ ≡ after (billVerdict file set servings loads) (linkLoads file set) loads
 
 -- ---- the ranking of two sets, and the one that ranks first
 

@@ -6,7 +6,7 @@ use Prim.Native.Nat.{ℕ, zero, suc, _+_, _*_, _/_, _%_, _≤_}
 use lib.Dec.{leb, ltb, eqb}
 use lib.ListN.{length, take, getD}
 use Rattle.laws.specs.Lists.{part, those}
-use Rattle.model.specs.File.{treeOf, demandOf, countOf, budgetOf}
+use Rattle.model.specs.File.{Tree, Demand, treeOf, demandOf, countOf, budgetOf}
 use Rattle.model.specs.Tree.{height}
 use Rattle.model.specs.Rules.{Verdict, passed, broken, _then_, fileVerdict, isSet, askScratch, askBuffers, askProgram}
 use Rattle.model.specs.Bill.{total, linkTotal}
@@ -17,33 +17,33 @@ use Rattle.model.specs.Calls.{after, ScratchAfter, budgets, planTotals, 
 
 -- ---- demand 3
 
--- what the report of a file owes at budget b, of the set that it holds there and of its two totals
-pub record HoldsOptimum (file : List ℕ) (b : ℕ) (held : List ℕ) (total′ greedy′ : ℕ) : Type 0 where
+-- what a report owes at budget b, of the set and the two totals that it holds there
+pub record HoldsOptimum (t : Tree) (d : Demand) (b : ℕ) (held : List ℕ) (planHeld greedyHeld : ℕ) : Type 0 where
   -- "a set of at most b nodes"
-  pub isASet : isSet (treeOf file) held ≡ true
+  pub isASet : isSet t held ≡ true
   pub withinBudget : length held ≤ b
   -- "and its exact total"
-  pub exactTotal : total′ ≡ total (treeOf file) (demandOf file) held
+  pub exactTotal : planHeld ≡ total t d held
   -- "that total is also the sum over links of load times length"
-  pub overLinks : total′ ≡ linkTotal (treeOf file) (demandOf file) held
+  pub overLinks : planHeld ≡ linkTotal t d held
   -- "every other set of at most b nodes costs at least as much"
-  pub noRivalLess : (l : List ℕ) → isSet (treeOf file) l ≡ true → length l ≤ b → total′ ≤ total (treeOf file) (demandOf file) l
+  pub noRivalLess : (l : List ℕ) → isSet t l ≡ true → length l ≤ b → planHeld ≤ total t d l
   -- "and one that costs the same comes later in the order of ties"
-  pub rivalsLater : (l : List ℕ) → isSet (treeOf file) l ≡ true → length l ≤ b → (l ≡ held → ⊥)
-      → total (treeOf file) (demandOf file) l ≡ total′ → tiesBefore (treeOf file) held l ≡ true
+  pub rivalsLater : (l : List ℕ) → isSet t l ≡ true → length l ≤ b → (l ≡ held → ⊥) → total t d l ≡ planHeld → tiesBefore t held l ≡ true
   -- "exactly the total that the greedy rule reaches in at most b steps"
-  pub greedysTotal : greedy′ ≡ greedyTotal (treeOf file) (demandOf file) b
+  pub greedyExact : greedyHeld ≡ greedyTotal t d b
   -- "never smaller than the set's"
-  pub greedyNoLess : total′ ≤ greedy′
+  pub greedyNoLess : planHeld ≤ greedyHeld
 
 -- "the set of a row is its numbers other than 0": row b of rows of k numbers
 unfoldable pub setOfRow : ℕ → List ℕ → ℕ → List ℕ
 setOfRow k rows b = those (λ v. not (eqb v 0)) (part rows (b * k) k)
 
--- demand 3: the record at every budget, of the buffers as the report call leaves them
+-- demand 3, of a report's plan totals, plan rows and greedy totals: "total b and row b, counted from 0, belong to budget b"
 abbrev pub DemandThree : List ℕ → List ℕ → List ℕ → List ℕ → Type 0
 DemandThree file totals rows greedys =
-    (b : ℕ) → b ≤ budgetOf file → HoldsOptimum file b (setOfRow (budgetOf file) rows b) (getD totals b 0) (getD greedys b 0)
+    (b : ℕ) → b ≤ budgetOf file
+    → HoldsOptimum (treeOf file) (demandOf file) b (setOfRow (budgetOf file) rows b) (getD totals b 0) (getD greedys b 0)
 
 -- ---- the report call: the plan's and the greedy rule's answers together
 

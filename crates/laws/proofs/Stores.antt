@@ -1,0 +1,89 @@
+-- Parts of a list, runs of stores (`sets` of lib.Seq), and loops that store one entry after another.
+use mathlib.Core.Path.{_≡_, refl, sym, ap, _∙_}
+use mathlib.Core.List.{List, [], _∷_, _++_, append-assoc, map, flatMap}
+use Prim.Native.Nat.{ℕ, zero, suc, _+_, _*_, _≤_, _<_}
+use native.Mathlib.Nat.{add-suc, suc-add, zero-add, add-zero, add-comm, suc-mul, zero-mul}
+use native.Mathlib.Numerals.{add-one}
+use native.Mathlib.Omega.{arith}
+use lib.ListN.{length, getD, take, drop, set, length-append, length-take, length-drop, length-map}
+use lib.Seq.{drop-append-add, drop-append-le, take-append-le, sets, sets-eq, drop-set-lt, take-set-le, take-at, drop-at, length-take-le, drop-drop}
+use Rattle.laws.specs.Lists.{range, part}
+use Rattle.laws.proofs.Lists.{length-range, range-snoc, map-append}
+
+-- ---- parts
+
+pub length-part : (l : List ℕ) (p w : ℕ) → p + w ≤ length l → length (part l p w) ≡ w
+length-part l p w h = simp (length-take, length-drop) (omega arith)
+
+-- a part that begins at 0 or later is a part of the front
+part-of-front : (w p : ℕ) (l : List ℕ) → take w (drop p l) ≡ drop p (take (p + w) l)
+part-of-front w zero l = ap (λ (k : ℕ). take k l) (sym (zero-add w))
+part-of-front zero (suc p) [] = rw add-zero
+part-of-front (suc w) (suc p) [] = rw suc-add
+part-of-front w (suc p) (x ∷ l) = rw suc-add (part-of-front w p l)
+
+-- rows of k entries, one after the other: the part at b × k is row b
+pub part-of-rows : (f : ℕ → List ℕ) (k i n b : ℕ) (rest : List ℕ) → ((j : ℕ) → i ≤ j → j < i + n → length (f j) ≡ k) → b < n
+    → part (flatMap f (range i n) ++ rest) (b * k) k ≡ f (i + b)
+unfolding flatMap range
+part-of-rows f k i zero b rest h l = absurd (omega arith)
+part-of-rows f k i (suc n) zero rest h l =
+    rw (zero-mul k, append-assoc (f i) (flatMap f (range (suc i) n)) rest, add-zero i) (take-at (f i) _ k (h i (omega arith) (omega arith)))
+part-of-rows f k i (suc n) (suc b) rest h l =
+    let e : suc b * k ≡ length (f i) + b * k = suc-mul b k ∙ omega (arith, h i (omega arith) (omega arith)) in
+    let s : i + suc b ≡ suc i + b = omega arith in
+    rw (append-assoc (f i) (flatMap f (range (suc i) n)) rest, e, drop-append-add (f i) (flatMap f (range (suc i) n) ++ rest) (b * k), s)
+    (part-of-rows f k (suc i) n b rest (λ j p q. h j (omega arith) (omega arith)) (omega arith))
+
+-- ---- runs of stores
+
+pub sets-append : (l : List ℕ) (i : ℕ) (xs ys : List ℕ) → sets l i (xs ++ ys) ≡ sets (sets l i xs) (i + length xs) ys
+sets-append l i [] ys = ap (λ (k : ℕ). sets l k ys) (sym (add-zero i))
+sets-append l i (a ∷ xs) ys =
+    sets-append (set l i a) (suc i) xs ys
+    ∙ ap (λ (k : ℕ). sets (sets (set l i a) (suc i) xs) k ys) (suc-add i (length xs) ∙ sym (add-suc i (length xs)))
+
+-- a run from index 0 on is written in front of the rest
+pub sets-front : (l xs : List ℕ) → length xs ≤ length l → sets l 0 xs ≡ xs ++ drop (length xs) l
+sets-front l xs h = sets-eq xs l 0 (omega arith) ∙ rw (zero-add (length xs))
+
+pub drop-sets : (n : ℕ) (l : List ℕ) (i : ℕ) (xs : List ℕ) → i + length xs ≤ n → drop n (sets l i xs) ≡ drop n l
+drop-sets n l i [] h = refl
+drop-sets n l i (a ∷ xs) h = drop-sets n (set l i a) (suc i) xs (omega arith) ∙ drop-set-lt n l i a (omega arith)
+
+pub take-sets : (n : ℕ) (l : List ℕ) (i : ℕ) (xs : List ℕ) → n ≤ i → take n (sets l i xs) ≡ take n l
+take-sets n l i [] h = refl
+take-sets n l i (a ∷ xs) h = take-sets n (set l i a) (suc i) xs (omega arith) ∙ take-set-le n l i a h
+
+-- a part after a run, before it, and the run itself
+pub part-after : (l : List ℕ) (i : ℕ) (xs : List ℕ) (p w : ℕ) → i + length xs ≤ p → part (sets l i xs) p w ≡ part l p w
+part-after l i xs p w h = ap (take w) (drop-sets p l i xs h)
+
+pub part-before : (l : List ℕ) (i : ℕ) (xs : List ℕ) (p w : ℕ) → p + w ≤ i → part (sets l i xs) p w ≡ part l p w
+part-before l i xs p w h =
+    part-of-front w p (sets l i xs) ∙ ap (drop p) (take-sets (p + w) l i xs h) ∙ sym (part-of-front w p l)
+
+pub part-same : (l : List ℕ) (i : ℕ) (xs : List ℕ) (w : ℕ) → length xs ≡ w → i + w ≤ length l → part (sets l i xs) i w ≡ xs
+part-same l i xs w e h =
+    ap (λ (s : List ℕ). part s i w) (sets-eq xs l i (omega arith) ∙ append-assoc (take i l) xs (drop (i + length xs) l))
+    ∙ ap (take w) (drop-at (take i l) (xs ++ drop (i + length xs) l) i (length-take-le i l (omega arith)))
+    ∙ take-at xs (drop (i + length xs) l) w e
+
+-- what a slice holds after its part from i to e was lent and came back holding xs
+pub part-back : (l : List ℕ) (i e : ℕ) (xs : List ℕ) → i + length xs ≡ e → e ≤ length l → take i l ++ (xs ++ drop e l) ≡ sets l i xs
+part-back l i e xs h k =
+    sym (sets-eq xs l i (omega arith) ∙ append-assoc (take i l) xs (drop (i + length xs) l) ∙ ap (λ (n : ℕ). take i l ++ (xs ++ drop n l)) h)
+
+-- ---- a loop that writes f 0, f 1, .. from index i on: where it begins, and a turn
+
+pub loop-begins : (l : List ℕ) (i : ℕ) (f : ℕ → ℕ) → l ≡ sets l i (map f (range 0 0))
+unfolding range
+loop-begins l i f = refl
+
+pub loop-turns : (l : List ℕ) (i : ℕ) (f : ℕ → ℕ) (j : ℕ) {s : List ℕ} {p x : ℕ} → s ≡ sets l i (map f (range 0 j)) → p ≡ i + j → x ≡ f j
+    → set s p x ≡ sets l i (map f (range 0 (j + 1)))
+loop-turns l i f j hs hp hx =
+    let n : length (map f (range 0 j)) ≡ j = length-map (range 0 j) f ∙ length-range 0 j in
+    let one : map f (range 0 (suc j)) ≡ map f (range 0 j) ++ (f j ∷ []) =
+    ap (map f) (range-snoc 0 j) ∙ map-append f (range 0 j) _ ∙ ap (λ k. map f (range 0 j) ++ (f k ∷ [])) (zero-add j) in
+    rw (add-one, one, sets-append l i (map f (range 0 j)) (f j ∷ []), n, hs, hp, hx)

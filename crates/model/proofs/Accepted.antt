@@ -1,0 +1,155 @@
+-- What holds of an accepted file: its sizes, its preorder, and the limits of its fields at every node number.
+use mathlib.Core.Path.{_≡_, refl, ap, sym, _∙_}
+use mathlib.Core.Bool.{Bool, true, _&&_}
+use mathlib.Core.List.{List, [], _∷_}
+use Prim.Native.Nat.{ℕ, zero, suc, _+_, _*_, _-_, _≤_, _<_}
+use native.Mathlib.Decide.{decLt}
+use native.Mathlib.Omega.{arith}
+use lib.Dec.{leb, eqb}
+use lib.ListN.{length, take, getD, List·getD-eq-default}
+use borrow.Author.Tests.{leb-true, eqb-true}
+use Rattle.laws.specs.Lists.{has, same}
+use Rattle.laws.proofs.Bools.{both}
+use Rattle.model.specs.File.{Tree, Demand, Field, number, fieldOf, treeOf, demandOf, mark, version, headerLength, versionOf, countOf, budgetOf, recordAt, mostNodes, mostBudget, mostDepth, mostLength, mostFlow, mostHit, parentField, lengthField, flowField, hitField}
+use Rattle.model.specs.Tree.{route, depth}
+use Rattle.model.specs.Rules.{Verdict, passed, ask, _then_, holds, parentHolds, lengthHolds, recordVerdict, recordsVerdict, fileVerdict, accepted}
+use Rattle.model.proofs.Verdicts.{ask-passed, then-passed, holds-passed}
+use Rattle.model.proofs.Routes.{Preorder, route-server, route-ends, route-up}
+
+-- ---- the header
+
+pub record Headed (s : List ℕ) : Type 0 where
+  pub some : 1 ≤ countOf s
+  pub few : countOf s ≤ mostNodes
+  pub budget : budgetOf s ≤ mostBudget
+  pub exact : length s ≡ recordAt (countOf s)
+  pub records : recordsVerdict (treeOf s) (demandOf s) (countOf s) ≡ passed
+
+pub accepted-header : (s : List ℕ) → fileVerdict s ≡ passed → Headed s
+unfolding fileVerdict
+accepted-header s e =
+    let e1 = then-passed (ask 1 0 (leb headerLength (length s))) _ e in
+    let e2 = then-passed (ask 2 0 (same (take (length mark) s) mark)) _ (e1 .1) in
+    let e3 = then-passed (ask 3 0 (eqb (versionOf s) version)) _ (e2 .1) in
+    let e4 = then-passed (ask 4 0 (leb 1 (countOf s) && leb (countOf s) mostNodes)) _ (e3 .1) in
+    let e5 = then-passed (ask 5 0 (leb (budgetOf s) mostBudget)) _ (e4 .1) in
+    let e6 = then-passed (ask 6 0 (eqb (length s) (recordAt (countOf s)))) _ (e5 .1) in
+    let n = both (leb 1 (countOf s)) (leb (countOf s) mostNodes) (ask-passed 4 0 _ (e4 .0)) in
+    record {
+      some = leb-true 1 (countOf s) (n .0);
+      few = leb-true (countOf s) mostNodes (n .1);
+      budget = leb-true (budgetOf s) mostBudget (ask-passed 5 0 _ (e5 .0));
+      exact = eqb-true (length s) (recordAt (countOf s)) (ask-passed 6 0 _ (e6 .0));
+      records = e6 .1;
+    }
+
+-- ---- the records
+
+-- every record has its yes
+pub each-record : (t : Tree) (d : Demand) (n i : ℕ) → recordsVerdict t d n ≡ passed → i < n → recordVerdict t d i ≡ passed
+unfolding recordsVerdict
+each-record t d zero i e h = absurd (omega arith)
+each-record t d (suc n) i e h =
+    let p = then-passed (recordsVerdict t d n) (recordVerdict t d n) e in
+    elim (decLt i n) [
+      | yes l ↦ each-record t d n i (p .0) l
+      | no l ↦ let same : i ≡ n = omega arith in ap (recordVerdict t d) same ∙ p .1
+    ]
+
+-- rules 7 to 11 at node i
+pub record Sane (t : Tree) (d : Demand) (i : ℕ) : Type 0 where
+  pub parent : parentHolds t i ≡ true
+  pub shallow : depth t i ≤ mostDepth
+  pub length : lengthHolds t i ≡ true
+  pub flow : d .flow i ≤ mostFlow
+  pub hit : d .hit i ≤ mostHit
+
+pub sane-record : (t : Tree) (d : Demand) (i : ℕ) → recordVerdict t d i ≡ passed → Sane t d i
+unfolding recordVerdict
+sane-record t d i e =
+    let e7 = then-passed (ask 7 i (parentHolds t i)) _ e in
+    let e8 = then-passed (ask 8 i (leb (depth t i) mostDepth)) _ (e7 .1) in
+    let e9 = then-passed (ask 9 i (lengthHolds t i)) _ (e8 .1) in
+    let e10 = then-passed (ask 10 i (leb (d .flow i) mostFlow)) _ (e9 .1) in
+    record {
+      parent = ask-passed 7 i _ (e7 .0);
+      shallow = leb-true (depth t i) mostDepth (ask-passed 8 i _ (e8 .0));
+      length = ask-passed 9 i _ (e9 .0);
+      flow = leb-true (d .flow i) mostFlow (ask-passed 10 i _ (e10 .0));
+      hit = leb-true (d .hit i) mostHit (ask-passed 11 i _ (e10 .1));
+    }
+
+-- ---- past the last record every field reads as 0
+
+number-past : (w : ℕ) (s : List ℕ) (at : ℕ) → lib.ListN.length s ≤ at → number w s at ≡ 0
+unfolding number
+number-past zero s at h = refl
+number-past (suc w) s at h = omega (arith, number-past w s at h, List·getD-eq-default s 0 {n = at + w} (omega arith))
+
+field-past : (s : List ℕ) (f : Field) (i : ℕ) → lib.ListN.length s ≡ recordAt (countOf s) → countOf s ≤ i → fieldOf s f i ≡ 0
+unfolding fieldOf
+field-past s f i e h = number-past (f .width) s (recordAt i + f .offset) (omega arith)
+
+-- ---- the whole file
+
+-- what the laws ask of a tree and its demand, at every node number
+pub record Sound (t : Tree) (d : Demand) : Type 0 where
+  pub some : 1 ≤ t .count
+  pub few : t .count ≤ mostNodes
+  pub preorder : Preorder t
+  pub server : t .len 0 ≡ 0
+  pub shallow : (v : ℕ) → depth t v ≤ mostDepth
+  pub short : (v : ℕ) → t .len v ≤ mostLength
+  pub flow : (v : ℕ) → d .flow v ≤ mostFlow
+  pub hit : (v : ℕ) → d .hit v ≤ mostHit
+
+module _ (s : List ℕ) (yes′ : fileVerdict s ≡ passed) where
+  head : Headed s
+  head = accepted-header s yes′
+
+  sane : (i : ℕ) → i < countOf s → Sane (treeOf s) (demandOf s) i
+  sane i h = sane-record (treeOf s) (demandOf s) i (each-record (treeOf s) (demandOf s) (countOf s) i (head .records) h)
+
+  past : (f : Field) (i : ℕ) → countOf s ≤ i → fieldOf s f i ≡ 0
+  past f i h = field-past s f i (head .exact) h
+
+  preorder : Preorder (treeOf s)
+  unfolding parentHolds
+  preorder i =
+      elim (decLt (suc i) (countOf s)) [
+        | yes h ↦ sane (suc i) h .parent
+        | no h ↦ rw (past parentField (suc i) (omega arith)) (route-ends (treeOf s) i)
+      ]
+
+  -- what holds within the file and where a field reads as 0 holds at every node number
+  everywhere : (P : ℕ → Type 0) → ((v : ℕ) → v < countOf s → P v) → ((v : ℕ) → countOf s ≤ v → P v) → (v : ℕ) → P v
+  everywhere P f g v = elim (decLt v (countOf s)) [ yes h ↦ f v h | no h ↦ g v (omega arith) ]
+
+  at-most : (f : Field) (most : ℕ) → ((v : ℕ) → v < countOf s → fieldOf s f v ≤ most) → (v : ℕ) → fieldOf s f v ≤ most
+  at-most f most h = everywhere (λ v. fieldOf s f v ≤ most) h (λ v l. omega (arith, past f v l))
+
+  server-length : treeOf s .len 0 ≡ 0
+  unfolding lengthHolds
+  server-length = eqb-true _ _ (sane 0 (head .some) .length)
+
+  short-link : (v : ℕ) → v < countOf s → treeOf s .len v ≤ mostLength
+  unfolding lengthHolds
+  short-link zero h = omega (arith, server-length)
+  short-link (suc v) h = leb-true _ _ (sane (suc v) h .length)
+
+  past-depth : (v : ℕ) → countOf s ≤ v → depth (treeOf s) v ≤ mostDepth
+  unfolding depth
+  past-depth zero h = absurd (omega (arith, head .some))
+  past-depth (suc v) h = rw (route-up (treeOf s) preorder v, past parentField (suc v) h, route-server (treeOf s)) (omega arith)
+
+  pub accepted-sound : Sound (treeOf s) (demandOf s)
+  accepted-sound = record {
+    some = head .some;
+    few = head .few;
+    preorder = preorder;
+    server = server-length;
+    shallow = everywhere (λ v. depth (treeOf s) v ≤ mostDepth) (λ v h. sane v h .shallow) past-depth;
+    short = at-most lengthField mostLength short-link;
+    flow = at-most flowField mostFlow (λ v h. sane v h .flow);
+    hit = at-most hitField mostHit (λ v h. sane v h .hit);
+  }

@@ -1,0 +1,6 @@
+pub mod Verdicts
+pub mod Routes
+pub mod Nearest
+pub mod Loads
+pub mod Accepted
+pub mod Bounds

@@ -1,0 +1,108 @@
+-- Routes in a tree that stands in preorder: a node's route is the node and its parent's route.
+use mathlib.Core.Path.{_≡_, refl, ap}
+use mathlib.Core.Bool.{Bool, true, false}
+use mathlib.Core.List.{List, [], _∷_}
+use Prim.Native.Nat.{ℕ, zero, suc, _+_, _≤_, _<_}
+use native.Mathlib.Decide.{decLt}
+use native.Mathlib.Omega.{arith}
+use lib.ListN.{length}
+use Rattle.laws.specs.Lists.{has, sum}
+use Rattle.laws.proofs.Bools.{by-test}
+use Rattle.laws.proofs.Lists.{has-cases, has-none, has-head, has-tail, has-other}
+use Rattle.model.specs.File.{Tree}
+use Rattle.model.specs.Tree.{climb, route, depth, dist}
+
+module _ (t : Tree) where
+  pub route-server : route t 0 ≡ 0 ∷ []
+  unfolding route climb
+  route-server = refl
+
+  pub dist-server : t .len 0 ≡ 0 → dist t 0 ≡ 0
+  unfolding dist sum
+  dist-server z = rw (route-server, z)
+
+  climb-ends : (k v : ℕ) → has (climb (t .parent) k v) 0 ≡ true
+  unfolding climb
+  climb-ends zero v = has-head 0 []
+  climb-ends (suc k) zero = has-head 0 []
+  climb-ends (suc k) (suc v) = has-tail (suc v) 0 (climb (t .parent) k (t .parent (suc v))) (climb-ends k (t .parent (suc v)))
+
+  -- the server is on every route
+  pub route-ends : (v : ℕ) → has (route t v) 0 ≡ true
+  unfolding route
+  route-ends v = climb-ends v v
+
+  -- rule 7 at every node
+  abbrev pub Preorder : Type 0
+  Preorder = (i : ℕ) → has (route t i) (t .parent (suc i)) ≡ true
+
+  climb-le : (k v u : ℕ) → ((x : ℕ) → x < v → t .parent (suc x) ≤ x) → has (climb (t .parent) k v) u ≡ true → u ≤ v
+  unfolding climb
+  climb-le zero v u f = has-cases (u ≤ v) 0 u [] (λ e. omega arith) (λ e. absurd (has-none u e))
+  climb-le (suc k) zero u f = has-cases (u ≤ 0) 0 u [] (λ e. omega arith) (λ e. absurd (has-none u e))
+  climb-le (suc k) (suc v) u f =
+      let p = f v (omega arith) in
+      has-cases (u ≤ suc v) (suc v) u (climb (t .parent) k (t .parent (suc v))) (λ e. omega arith)
+      (λ e. omega (arith, climb-le k (t .parent (suc v)) u (λ x h. f x (omega arith)) e))
+
+  parents-before : Preorder → (n i : ℕ) → i < n → t .parent (suc i) ≤ i
+  unfolding route
+  parents-before pre zero i h = absurd (omega arith)
+  parents-before pre (suc n) i h =
+      elim (decLt i n) [
+        | yes l ↦ parents-before pre n i l
+        | no l ↦
+            let e : n ≡ i = omega arith in
+            let p : t .parent (suc n) ≤ n = climb-le n n (t .parent (suc n)) (parents-before pre n) (pre n) in
+            rw e at p
+      ]
+
+  module _ (pre : Preorder) where
+    -- a parent stands before its node
+    pub parent-before : (i : ℕ) → t .parent (suc i) ≤ i
+    parent-before i = parents-before pre (suc i) i (omega arith)
+
+    -- more links than needed change nothing
+    climb-same : (k j v : ℕ) → v ≤ k → v ≤ j → climb (t .parent) k v ≡ climb (t .parent) j v
+    unfolding climb
+    climb-same zero zero v h h′ = refl
+    climb-same zero (suc j) zero h h′ = refl
+    climb-same zero (suc j) (suc v) h h′ = absurd (omega arith)
+    climb-same (suc k) zero zero h h′ = refl
+    climb-same (suc k) zero (suc v) h h′ = absurd (omega arith)
+    climb-same (suc k) (suc j) zero h h′ = refl
+    climb-same (suc k) (suc j) (suc v) h h′ =
+        ap (λ l. suc v ∷ l) (climb-same k j (t .parent (suc v)) (omega (arith, parent-before v)) (omega (arith, parent-before v)))
+
+    pub route-up : (i : ℕ) → route t (suc i) ≡ suc i ∷ route t (t .parent (suc i))
+    unfolding route climb
+    route-up i = ap (λ l. suc i ∷ l) (climb-same i (t .parent (suc i)) (t .parent (suc i)) (parent-before i) (omega arith))
+
+    up-from : (P : ℕ → Type 0) → P 0 → ((i : ℕ) → P (t .parent (suc i)) → P (suc i)) → (k v : ℕ) → v ≤ k → P v
+    up-from P z s zero zero h = z
+    up-from P z s zero (suc v) h = absurd (omega arith)
+    up-from P z s (suc k) zero h = z
+    up-from P z s (suc k) (suc v) h = s v (up-from P z s k (t .parent (suc v)) (omega (arith, parent-before v)))
+
+    -- what holds of the server, and of a node if of its parent, holds of every node
+    pub by-route : (P : ℕ → Type 0) → P 0 → ((i : ℕ) → P (t .parent (suc i)) → P (suc i)) → (v : ℕ) → P v
+    by-route P z s v = up-from P z s v v (omega arith)
+
+    pub dist-up : (i : ℕ) → dist t (suc i) ≡ t .len (suc i) + dist t (t .parent (suc i))
+    unfolding dist sum
+    dist-up i = ap (sum (t .len)) (route-up i)
+
+    -- the nodes on a route are not after its first
+    pub route-le : (u v : ℕ) → has (route t v) u ≡ true → u ≤ v
+    route-le u v h = climb-route v h
+      where
+        climb-route : (v : ℕ) → has (route t v) u ≡ true → u ≤ v
+        climb-route =
+            by-route (λ v. has (route t v) u ≡ true → u ≤ v)
+            (rw route-server (has-cases (u ≤ 0) 0 u [] (λ e. omega arith) (λ e. absurd (has-none u e))))
+            (λ i ih. rw (route-up i) (has-cases (u ≤ suc i) (suc i) u (route t (t .parent (suc i))) (λ e. omega arith) (λ e. omega (arith, ih e, parent-before i))))
+
+    -- a later node is on no route of an earlier one
+    pub route-before : (u v : ℕ) → v < u → has (route t v) u ≡ false
+    route-before u v h =
+        by-test (λ b. has (route t v) u ≡ b → b ≡ false) (has (route t v) u) (λ e _. absurd (omega (arith, route-le u v e))) (λ _ _. refl) refl
