@@ -4,3 +4,4 @@ pub mod Nearest
 pub mod Loads
 pub mod Accepted
 pub mod Bounds
+pub mod Decimals
