@@ -1,5 +1,6 @@
 pub mod Numbers
 pub mod Bools
 pub mod Lists
+pub mod Leads
 pub mod Sums
 pub mod Stores

@@ -1,7 +1,8 @@
--- Laws of membership, ranges, filters and counts.
+-- Laws of membership, ranges, lists by a rule, and those of a list that pass a test.
 use mathlib.Core.Path.{_≡_, refl, sym, ap, _∙_}
-use mathlib.Core.Bool.{Bool, true, false, cond, _||_, false≢true, or-true}
-use mathlib.Core.List.{List, [], _∷_, _++_, map}
+use mathlib.Core.Bool.{Bool, true, false, cond, _&&_, _||_, false≢true, or-true, and-false, and-or-distrib-left}
+use mathlib.Core.List.{List, [], _∷_, _++_, map, List·Memᴰ, List·Memᴰ·head, List·Memᴰ·tail, List·Memᴰ·not-nil, List·Memᴰ·cases-cons}
+use mathlib.Core.Logic.{inl, inr}
 use Prim.Native.Nat.{ℕ, zero, suc, _+_, _≤_, _<_}
 use native.Mathlib.Nat.{add-zero, add-suc, suc-add}
 use native.Mathlib.Decide.{ℕ-discrete}
@@ -10,7 +11,7 @@ use lib.Dec.{eqb}
 use lib.ListN.{length, getD}
 use borrow.Author.Tests.{eq-eqb, ne-eqb, eqb-true}
 use Rattle.laws.specs.Lists.{range, has, those, howMany, same}
-use Rattle.laws.proofs.Bools.{by-test, both}
+use Rattle.laws.proofs.Bools.{by-test, not-both, both}
 
 -- ---- membership
 
@@ -33,6 +34,12 @@ has-tail x v xs h = rw (h, or-true)
 pub has-other : (x v : ℕ) (xs : List ℕ) → (x ≡ v → ⊥) → has (x ∷ xs) v ≡ has xs v
 unfolding has
 has-other x v xs n = rw (ne-eqb x v n)
+
+pub lacks-head : (x v : ℕ) (xs : List ℕ) → has (x ∷ xs) v ≡ false → x ≡ v → ⊥
+lacks-head x v xs h e = not-both (rw e (has-head v xs)) h
+
+pub lacks-tail : (x v : ℕ) (xs : List ℕ) → has (x ∷ xs) v ≡ false → has xs v ≡ false
+lacks-tail x v xs h = sym (has-other x v xs (lacks-head x v xs h)) ∙ h
 
 -- ---- ranges
 
@@ -77,11 +84,33 @@ entry-of-range f i (suc n) (suc b) rest h =
     let e : i + suc b ≡ suc i + b = omega arith in
     rw e (entry-of-range f (suc i) n b rest (omega arith))
 
--- ---- filters
+-- ---- those that pass a test
 
-pub those-cons : (p : ℕ → Bool) (x : ℕ) (xs : List ℕ) → those p (x ∷ xs) ≡ cond (p x) (x ∷ those p xs) (those p xs)
-unfolding those
-those-cons p x xs = refl
+-- where x is v, a test of the one is a test of the other
+test-where-same : (p : ℕ → Bool) (x v : ℕ) → (p v && eqb x v) ≡ (p x && eqb x v)
+test-where-same p x v = by-test (λ b. (p v && b) ≡ (p x && b)) (eqb x v) (λ e. rw (eqb-true x v e)) (λ _. simp and-false)
+
+pub has-those : (p : ℕ → Bool) (v : ℕ) (l : List ℕ) → has (those p l) v ≡ (p v && has l v)
+unfolding has those
+has-those p v [] = rw and-false
+has-those p v (x ∷ xs) =
+    rw (and-or-distrib-left, test-where-same p x v, ← has-those p v xs)
+    (by-test (λ b. has (cond b (x ∷ those p xs) (those p xs)) v ≡ (b && eqb x v || has (those p xs) v)) (p x) (λ _. refl) (λ _. refl))
+
+-- ---- membership as a place in the list
+
+module _ {A B : Type 0} (f : A → B) where
+  pub map-has : {x : A} {l : List A} → List·Memᴰ x l → List·Memᴰ (f x) (map f l)
+  map-has (List·Memᴰ·head e) = List·Memᴰ·head (ap f e)
+  map-has (List·Memᴰ·tail m) = List·Memᴰ·tail (map-has m)
+
+  pub in-map : (y : B) (l : List A) → List·Memᴰ y (map f l) → (x : A) × List·Memᴰ x l × (y ≡ f x)
+  in-map y [] m = absurd (List·Memᴰ·not-nil m)
+  in-map y (x ∷ l) m =
+      elim (List·Memᴰ·cases-cons m) [
+        | inl e ↦ (x, List·Memᴰ·head refl, e)
+        | inr n ↦ let r = in-map y l n in (r .0, List·Memᴰ·tail (r .1), r .2)
+      ]
 
 -- ---- the test of two lists
 

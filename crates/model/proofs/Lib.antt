@@ -1,7 +1,15 @@
 pub mod Verdicts
+pub mod Accepted
 pub mod Routes
 pub mod Nearest
 pub mod Loads
-pub mod Accepted
 pub mod Bounds
+pub mod Ascending
+pub mod Sets
+pub mod Order
+pub mod Plans
+pub mod WithNode
+pub mod GreedySteps
+pub mod GreedyRuns
+pub mod Reported
 pub mod Decimals

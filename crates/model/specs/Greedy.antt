@@ -18,15 +18,16 @@ unfoldable pub withNodes : List ℕ → List ℕ → List ℕ
 withNodes k [] = k
 withNodes k (v ∷ vs) = withNodes (withNode v k) vs
 
+-- the nodes outside the set K, ascending
+abbrev pub outside : Tree → List ℕ → List ℕ
+outside t k = those (λ v. not (has k v)) (sites t)
+
+-- what a step does
 pub data Step : Type 0 where
   stops : Step
   takes : ℕ → Step
 
 module _ (t : Tree) (d : Demand) where
-  -- the nodes outside the set, ascending
-  abbrev pub outside : List ℕ → List ℕ
-  outside k = those (λ v. not (has k v)) (sites t)
-
   -- the total of K with v
   abbrev pub totalWith : List ℕ → ℕ → ℕ
   totalWith k v = total t d (withNode v k)
@@ -45,7 +46,7 @@ module _ (t : Tree) (d : Demand) where
   -- the nodes taken from K on in at most b steps, in the order taken
   unfoldable pub takenFrom : List ℕ → ℕ → List ℕ
   takenFrom k zero = []
-  takenFrom k (suc b) = elim (stepOver k (outside k)) as (λ _. List ℕ) [ stops ↦ [] | takes v ↦ v ∷ takenFrom (withNode v k) b ]
+  takenFrom k (suc b) = elim (stepOver k (outside t k)) as (λ _. List ℕ) [ stops ↦ [] | takes v ↦ v ∷ takenFrom (withNode v k) b ]
 
   -- from the empty set
   abbrev pub greedyNodes : ℕ → List ℕ

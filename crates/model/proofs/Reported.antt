@@ -1,0 +1,81 @@
+-- A report that holds the plan's and the greedy rule's answers meets demand 3.
+use mathlib.Core.Path.{_≡_, refl, sym, ap, _∙_}
+use mathlib.Core.Bool.{true, false, not}
+use mathlib.Core.List.{List, [], _∷_, _++_}
+use Prim.Native.Nat.{ℕ, zero, suc, _+_, _-_, _*_, _≤_, _<_}
+use native.Mathlib.Nat.{zero-add}
+use native.Mathlib.Omega.{arith}
+use lib.Dec.{eqb}
+use lib.ListN.{length, drop, getD, length-append, length-replicate, replicate}
+use borrow.Author.Tests.{ne-eqb}
+use Rattle.laws.specs.Lists.{those}
+use Rattle.laws.proofs.Lists.{entry-of-range}
+use Rattle.laws.proofs.Stores.{part-of-rows}
+use Rattle.model.specs.File.{Tree, Demand, treeOf, demandOf, budgetOf}
+use Rattle.model.specs.Rules.{passed, fileVerdict, ascends, isSet}
+use Rattle.model.specs.Plan.{plan, planTotal, row}
+use Rattle.model.specs.Greedy.{greedySet, greedyTotal}
+use Rattle.model.specs.Calls.{planTotals, planRows, greedyTotals}
+use Rattle.model.specs.Report.{HoldsOptimum, setOfRow, DemandThree}
+use Rattle.model.proofs.Accepted.{Sound, accepted-sound}
+use Rattle.model.proofs.Ascending.{ascends-cons}
+use Rattle.model.proofs.GreedyRuns.{greedy-is-set, greedy-within}
+use Rattle.model.proofs.Loads.{links-total}
+use Rattle.model.proofs.Plans.{plan-ranks-first, plan-least, plan-ties}
+
+-- ---- the plan meets every clause
+
+pub plan-holds-optimum : (t : Tree) (d : Demand) → Sound t d → (b : ℕ) → HoldsOptimum t d b (plan t d b) (planTotal t d b) (greedyTotal t d b)
+plan-holds-optimum t d ok b =
+    let p = plan-ranks-first t d b in
+    record {
+      isASet = p .isASet;
+      withinBudget = p .within;
+      exactTotal = refl;
+      overLinks = sym (links-total t d (ok .preorder) (plan t d b) (ok .server) (ok .hit));
+      noRivalLess = plan-least t d b;
+      rivalsLater = plan-ties t d b;
+      greedyExact = refl;
+      greedyNoLess = plan-least t d b (greedySet t d b) (greedy-is-set t d b) (greedy-within t d b);
+    }
+
+-- ---- a set is read back from its row
+
+those-of-zeros : (m : ℕ) → those (λ v. not (eqb v 0)) (replicate m 0) ≡ []
+unfolding those
+those-of-zeros zero = refl
+those-of-zeros (suc m) = those-of-zeros m
+
+those-of-row : (a n m : ℕ) (k : List ℕ) → ascends a n k ≡ true → those (λ v. not (eqb v 0)) (k ++ replicate m 0) ≡ k
+unfolding those
+those-of-row a n m [] h = those-of-zeros m
+those-of-row a n m (v ∷ k) h =
+    let parts = ascends-cons n a v k .0 h in
+    rw (ne-eqb v 0 (λ e. omega arith)) (ap (λ l. v ∷ l) (those-of-row v n m k (parts .2)))
+
+length-row : (k : ℕ) (vs : List ℕ) → length vs ≤ k → length (row k vs) ≡ k
+length-row k vs h = simp (length-append, length-replicate) (omega arith)
+
+module _ (file : List ℕ) where
+  abbrev t : Tree
+  t = treeOf file
+
+  abbrev d : Demand
+  d = demandOf file
+
+  row-holds-plan : (rest : List ℕ) (b : ℕ) → b ≤ budgetOf file → setOfRow (budgetOf file) (planRows file ++ rest) b ≡ plan t d b
+  unfolding setOfRow planRows
+  row-holds-plan rest b h =
+      let k = budgetOf file in
+      rw (part-of-rows (λ b. row k (plan t d b)) k 0 (suc k) b rest
+      (λ j _ l. length-row k (plan t d j) (omega (arith, plan-ranks-first t d j .within))) (omega arith), zero-add b)
+      (those-of-row 0 (t .count) (k - length (plan t d b)) (plan t d b) (plan-ranks-first t d b .isASet))
+
+  -- whatever stands in the buffers behind the answers
+  pub report-meets-demand : fileVerdict file ≡ passed → (totals rows greedys : List ℕ)
+      → DemandThree file (planTotals file ++ totals) (planRows file ++ rows) (greedyTotals file ++ greedys)
+  unfolding planTotals greedyTotals
+  report-meets-demand e totals rows greedys b h =
+      let k = budgetOf file in
+      rw (row-holds-plan rows b h, entry-of-range (planTotal t d) 0 (suc k) b totals (omega arith), entry-of-range (greedyTotal t d) 0 (suc k) b greedys (omega arith), zero-add b)
+      (plan-holds-optimum t d (accepted-sound file e) b)

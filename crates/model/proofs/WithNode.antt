@@ -1,0 +1,46 @@
+-- Laws of a set with one node more, and with more nodes.
+use mathlib.Core.Path.{_≡_, refl, ap}
+use mathlib.Core.Bool.{true, false, cond, _||_, or-assoc, or-comm}
+use mathlib.Core.List.{List, [], _∷_}
+use Prim.Native.Nat.{ℕ, suc, _+_, _<_}
+use native.Mathlib.Omega.{arith}
+use lib.Dec.{ltb, eqb}
+use lib.ListN.{length}
+use borrow.Author.Tests.{ltb-true, ltb-false}
+use Rattle.laws.specs.Lists.{has}
+use Rattle.laws.proofs.Bools.{by-test}
+use Rattle.laws.proofs.Lists.{lacks-head, lacks-tail}
+use Rattle.model.specs.Rules.{ascends}
+use Rattle.model.specs.Greedy.{withNode, withNodes}
+use Rattle.model.proofs.Ascending.{ascends-cons}
+
+-- with a node that it lacks it still ascends
+pub ascends-with-node : (n a v : ℕ) (k : List ℕ) → a < v → v < n → has k v ≡ false → ascends a n k ≡ true → ascends a n (withNode v k) ≡ true
+unfolding withNode ascends
+ascends-with-node n a v [] above below lacks h = ascends-cons n a v [] .1 (above, below, refl)
+ascends-with-node n a v (u ∷ us) above below lacks h =
+    let parts = ascends-cons n a u us .0 h in
+    let other = lacks-head u v us lacks in
+    let rest : u < v → ascends u n (withNode v us) ≡ true = λ less. ascends-with-node n u v us less below (lacks-tail u v us lacks) (parts .2) in
+    by-test (λ b. ascends a n (cond b (v ∷ u ∷ us) (u ∷ withNode v us)) ≡ true) (ltb v u)
+    (λ e. ascends-cons n a v (u ∷ us) .1 (above, below, ascends-cons n v u us .1 (ltb-true v u e, parts .1, parts .2)))
+    (λ e. ascends-cons n a u (withNode v us) .1 (parts .0, parts .1, rest (omega (arith, ltb-false))))
+
+pub has-with-node : (v u : ℕ) (k : List ℕ) → has (withNode v k) u ≡ (eqb v u || has k u)
+unfolding withNode has
+has-with-node v u [] = refl
+has-with-node v u (x ∷ xs) =
+    by-test (λ b. has (cond b (v ∷ x ∷ xs) (x ∷ withNode v xs)) u ≡ (eqb v u || (eqb x u || has xs u))) (ltb v x) (λ _. refl)
+    (λ _. rw (has-with-node v u xs, ← or-assoc (eqb x u), or-comm (eqb x u) (eqb v u), or-assoc))
+
+pub length-with-node : (v : ℕ) (k : List ℕ) → length (withNode v k) ≡ suc (length k)
+unfolding withNode
+length-with-node v [] = refl
+length-with-node v (u ∷ us) =
+    by-test (λ b. length (cond b (v ∷ u ∷ us) (u ∷ withNode v us)) ≡ suc (suc (length us))) (ltb v u) (λ _. refl)
+    (λ _. ap suc (length-with-node v us))
+
+pub length-with-nodes : (k vs : List ℕ) → length (withNodes k vs) ≡ length k + length vs
+unfolding withNodes
+length-with-nodes k [] = omega arith
+length-with-nodes k (v ∷ vs) = omega (arith, length-with-nodes (withNode v k) vs, length-with-node v k)
