@@ -1,19 +1,19 @@
 -- What holds of an accepted file: its sizes, its preorder, and the limits of its fields at every node number.
-use mathlib.Core.Path.{_≡_, refl, ap, sym, _∙_}
-use mathlib.Core.Bool.{Bool, true, _&&_}
-use mathlib.Core.List.{List, [], _∷_}
-use Prim.Native.Nat.{ℕ, zero, suc, _+_, _*_, _-_, _≤_, _<_}
+use mathlib.Core.Path.{_≡_, refl, ap, _∙_}
+use mathlib.Core.Bool.{true, _&&_}
+use mathlib.Core.List.{List}
+use Prim.Native.Nat.{ℕ, zero, suc, _+_, _≤_, _<_}
 use native.Mathlib.Decide.{decLt}
 use native.Mathlib.Omega.{arith}
 use lib.Dec.{leb, eqb}
-use lib.ListN.{length, take, getD, List·getD-eq-default}
+use lib.ListN.{length, take, List·getD-eq-default}
 use borrow.Author.Tests.{leb-true, eqb-true}
-use Rattle.laws.specs.Lists.{has, same}
+use Rattle.laws.specs.Lists.{same}
 use Rattle.laws.proofs.Bools.{both}
 use Rattle.model.specs.File.{Tree, Demand, Field, number, fieldOf, treeOf, demandOf, mark, version, headerLength, versionOf, countOf, budgetOf, recordAt, mostNodes, mostBudget, mostDepth, mostLength, mostFlow, mostHit, parentField, lengthField, flowField, hitField}
-use Rattle.model.specs.Tree.{route, depth}
-use Rattle.model.specs.Rules.{Verdict, passed, ask, _then_, holds, parentHolds, lengthHolds, recordVerdict, recordsVerdict, fileVerdict, accepted}
-use Rattle.model.proofs.Verdicts.{ask-passed, then-passed, holds-passed}
+use Rattle.model.specs.Tree.{depth}
+use Rattle.model.specs.Rules.{passed, ask, parentHolds, lengthHolds, recordVerdict, recordsVerdict, fileVerdict}
+use Rattle.model.proofs.Verdicts.{ask-passed, then-passed}
 use Rattle.model.proofs.Routes.{Preorder, route-server, route-ends, route-up}
 
 -- ---- the header

@@ -6,7 +6,7 @@ use native.Mathlib.Omega.{arith}
 use lib.ListN.{length}
 use Rattle.laws.specs.Lists.{sum}
 use Rattle.laws.proofs.Sums.{sum-le}
-use Rattle.model.specs.File.{Tree, Demand, mostNodes, mostDepth, mostLength, mostFlow}
+use Rattle.model.specs.File.{Tree, Demand, mostDepth, mostLength, mostFlow}
 use Rattle.model.specs.Tree.{route, depth, dist}
 use Rattle.model.specs.Bill.{thousandths, totalLimit, price, cost, total, serving}
 use Rattle.model.proofs.Routes.{route-server, route-up, by-route}

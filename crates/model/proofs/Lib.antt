@@ -13,3 +13,4 @@ pub mod GreedySteps
 pub mod GreedyRuns
 pub mod Reported
 pub mod Decimals
+pub mod Laws

@@ -1,16 +1,26 @@
 -- Distances grow along a route, so the least price over the route is the price at the serving node.
 use mathlib.Core.Path.{_≡_, refl, ap, _∙_}
-use mathlib.Core.Bool.{true, false, cond}
+use mathlib.Core.Bool.{true, cond}
 use mathlib.Core.List.{List, [], _∷_}
-use Prim.Native.Nat.{ℕ, suc, _+_, _*_, _-_, _≤_, min}
+use Prim.Native.Nat.{ℕ, suc, _*_, _≤_}
 use native.Mathlib.Nat.{mul-le-mul-left, sub-le-sub-left}
 use native.Mathlib.Omega.{arith}
 use Rattle.laws.specs.Lists.{least, has, those, firstThat}
 use Rattle.laws.proofs.Bools.{by-test, cond-same}
+use Rattle.laws.proofs.Lists.{has-cases, has-none}
 use Rattle.model.specs.File.{Tree, Demand}
 use Rattle.model.specs.Tree.{route, dist}
 use Rattle.model.specs.Bill.{thousandths, price, cost, serving}
 use Rattle.model.proofs.Routes.{route-server, Preorder, route-up, by-route, dist-up}
+
+-- distances grow along a route
+pub dist-grows : (t : Tree) → Preorder t → (u v : ℕ) → has (route t v) u ≡ true → dist t u ≤ dist t v
+dist-grows t pre u =
+    by-route t pre (λ v. has (route t v) u ≡ true → dist t u ≤ dist t v)
+    (rw (route-server t) (has-cases _ 0 u [] (λ e. rw e (omega arith)) (λ m. absurd (has-none u m))))
+    (λ i ih. rw (route-up t pre i) (has-cases _ (suc i) u (route t (t .parent (suc i)))
+    (λ e. rw e (omega arith))
+    (λ m. omega (arith, ih m, dist-up t pre i))))
 
 module _ (t : Tree) (pre : Preorder t) (k : List ℕ) where
   pub serving-server : serving t k 0 ≡ 0

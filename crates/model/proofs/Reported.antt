@@ -1,18 +1,18 @@
 -- A report that holds the plan's and the greedy rule's answers meets demand 3.
-use mathlib.Core.Path.{_≡_, refl, sym, ap, _∙_}
-use mathlib.Core.Bool.{true, false, not}
+use mathlib.Core.Path.{_≡_, refl, sym, ap}
+use mathlib.Core.Bool.{true, not}
 use mathlib.Core.List.{List, [], _∷_, _++_}
-use Prim.Native.Nat.{ℕ, zero, suc, _+_, _-_, _*_, _≤_, _<_}
+use Prim.Native.Nat.{ℕ, zero, suc, _-_, _≤_}
 use native.Mathlib.Nat.{zero-add}
 use native.Mathlib.Omega.{arith}
 use lib.Dec.{eqb}
-use lib.ListN.{length, drop, getD, length-append, length-replicate, replicate}
+use lib.ListN.{length, length-append, length-replicate, replicate}
 use borrow.Author.Tests.{ne-eqb}
 use Rattle.laws.specs.Lists.{those}
 use Rattle.laws.proofs.Lists.{entry-of-range}
 use Rattle.laws.proofs.Stores.{part-of-rows}
 use Rattle.model.specs.File.{Tree, Demand, treeOf, demandOf, budgetOf}
-use Rattle.model.specs.Rules.{passed, fileVerdict, ascends, isSet}
+use Rattle.model.specs.Rules.{passed, fileVerdict, ascends}
 use Rattle.model.specs.Plan.{plan, planTotal, row}
 use Rattle.model.specs.Greedy.{greedySet, greedyTotal}
 use Rattle.model.specs.Calls.{planTotals, planRows, greedyTotals}
@@ -67,8 +67,11 @@ module _ (file : List ℕ) where
   unfolding setOfRow planRows
   row-holds-plan rest b h =
       let k = budgetOf file in
-      rw (part-of-rows (λ b. row k (plan t d b)) k 0 (suc k) b rest
-      (λ j _ l. length-row k (plan t d j) (omega (arith, plan-ranks-first t d j .within))) (omega arith), zero-add b)
+      rw (
+        part-of-rows (λ b. row k (plan t d b)) k 0 (suc k) b rest
+            (λ j _ l. length-row k (plan t d j) (omega (arith, plan-ranks-first t d j .within))) (omega arith),
+        zero-add b,
+      )
       (those-of-row 0 (t .count) (k - length (plan t d b)) (plan t d b) (plan-ranks-first t d b .isASet))
 
   -- whatever stands in the buffers behind the answers

@@ -1,16 +1,15 @@
 -- Routes in a tree that stands in preorder: a node's route is the node and its parent's route.
 use mathlib.Core.Path.{_≡_, refl, ap}
-use mathlib.Core.Bool.{Bool, true, false}
-use mathlib.Core.List.{List, [], _∷_}
+use mathlib.Core.Bool.{true, false}
+use mathlib.Core.List.{[], _∷_}
 use Prim.Native.Nat.{ℕ, zero, suc, _+_, _≤_, _<_}
 use native.Mathlib.Decide.{decLt}
 use native.Mathlib.Omega.{arith}
-use lib.ListN.{length}
 use Rattle.laws.specs.Lists.{has, sum}
 use Rattle.laws.proofs.Bools.{by-test}
-use Rattle.laws.proofs.Lists.{has-cases, has-none, has-head, has-tail, has-other}
+use Rattle.laws.proofs.Lists.{has-cases, has-none, has-head, has-tail}
 use Rattle.model.specs.File.{Tree}
-use Rattle.model.specs.Tree.{climb, route, depth, dist}
+use Rattle.model.specs.Tree.{climb, route, dist}
 
 module _ (t : Tree) where
   pub route-server : route t 0 ≡ 0 ∷ []

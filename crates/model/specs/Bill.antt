@@ -1,5 +1,5 @@
 -- Document 01, "Distances and the bill": what a set costs, its serving nodes and its link loads.
-use mathlib.Core.Bool.{Bool, cond}
+use mathlib.Core.Bool.{cond}
 use mathlib.Core.List.{List, [], _∷_}
 use Prim.Native.Nat.{ℕ, zero, suc, _*_, _-_, _^_}
 use lib.Dec.{eqb}

@@ -1,9 +1,9 @@
 -- Document 01, call by call: the order of the rules, the answer, and each buffer after the call, for all arguments.
 -- A name with a prime is a buffer as the call leaves it.
 use mathlib.Core.Path.{_≡_}
-use mathlib.Core.Bool.{Bool, true, false, cond, _&&_}
-use mathlib.Core.List.{List, [], _∷_, _++_, map, flatMap}
-use Prim.Native.Nat.{ℕ, suc, _*_, _≤_}
+use mathlib.Core.Bool.{Bool, cond, _&&_}
+use mathlib.Core.List.{List, [], _++_, map, flatMap}
+use Prim.Native.Nat.{ℕ, suc, _*_}
 use lib.Dec.{ltb}
 use lib.ListN.{length, drop}
 use Rattle.laws.specs.Lists.{range, part}

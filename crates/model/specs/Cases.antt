@@ -1,9 +1,8 @@
 -- Document 01, "Trees to try": the twelve cases marked *, and the theorem that the definitions agree with all of them.
-use mathlib.Core.Bool.{Bool, true, false, cond, _&&_}
+use mathlib.Core.Bool.{Bool, true, _&&_}
 use mathlib.Core.List.{List, [], _∷_, _++_, map, flatMap}
 use Prim.Native.Nat.{ℕ, zero, suc, _/_, _%_}
 use lib.Dec.{T, eqb}
-use lib.ListN.{length, take}
 use Rattle.laws.specs.Lists.{range, sum, least, greatest, has, anyOf, those, howMany, firstThat, same}
 use Rattle.model.specs.File.{number, mark, version, fieldOf, treeOf, demandOf}
 use Rattle.model.specs.Tree.{climb, nodes, route, atOrBelow, depth, height, dist}

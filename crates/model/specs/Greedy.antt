@@ -1,5 +1,5 @@
 -- Document 01, "Greedy": the greedy rule of 004 section IV-A, with 01's own stop.
-use mathlib.Core.Bool.{Bool, true, false, cond, not}
+use mathlib.Core.Bool.{cond, not}
 use mathlib.Core.List.{List, [], _∷_}
 use Prim.Native.Nat.{ℕ, zero, suc}
 use lib.Dec.{ltb}
