@@ -36,7 +36,7 @@ module _ (t : Tree) (d : Demand) where
   -- ---- the nodes outside a set
 
   outside-is-set : (k : List ℕ) → isSet t (outside t k) ≡ true
-  outside-is-set k = ascends-those (t .count) (λ v. not (has k v)) 0 (sites t) (ascends-range (t .count) 0 (t .count - 1) (omega arith))
+  outside-is-set k = ascends-those (t .count) _ 0 (sites t) (ascends-range (t .count) 0 (t .count - 1) (omega arith))
 
   has-outside : (k : List ℕ) (u : ℕ) → 1 ≤ u → u < t .count → has k u ≡ false → has (outside t k) u ≡ true
   has-outside k u above below lacks = rw (has-those, lacks, in-range 1 (t .count - 1) u above (omega arith))

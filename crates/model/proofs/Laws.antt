@@ -1,9 +1,10 @@
 -- The nine laws of the definitions, each for every accepted file and every set, on one page.
 use mathlib.Core.Path.{_≡_}
-use mathlib.Core.Bool.{true, false}
+use mathlib.Core.Bool.{true, false, _||_}
 use mathlib.Core.List.{List, List·Memᴰ}
 use mathlib.Core.Logic.{_↔_, _⊎_}
 use Prim.Native.Nat.{ℕ, _≤_, _<_}
+use lib.Dec.{eqb}
 use lib.ListN.{length}
 use Rattle.laws.specs.Lists.{has}
 use Rattle.model.specs.File.{Tree, Demand, treeOf, demandOf}
@@ -12,7 +13,7 @@ use Rattle.model.specs.Rules.{fileVerdict, accepted, isSet}
 use Rattle.model.specs.Bill.{totalLimit, price, cost, total, linkTotal, serving}
 use Rattle.model.specs.Ties.{tiesBefore, ranksBefore}
 use Rattle.model.specs.Plan.{allSets, plan, planTotal}
-use Rattle.model.specs.Greedy.{greedyNodes, greedySet, greedyTotal}
+use Rattle.model.specs.Greedy.{withNode, greedyNodes, greedySet, greedyTotal}
 use Rattle.model.proofs.Verdicts.{holds-passed}
 use Rattle.model.proofs.Accepted.{accepted-sound}
 use Rattle.model.proofs.Nearest.{dist-grows, cost-is}
@@ -21,6 +22,7 @@ use Rattle.model.proofs.Bounds.{total-bound}
 use Rattle.model.proofs.Sets.{all-sets}
 use Rattle.model.proofs.Order.{Decides, rank-irreflexive, rank-transitive, rank-total, ties-said}
 use Rattle.model.proofs.Plans.{RanksFirst, plan-ranks-first, only-plan, plan-least}
+use Rattle.model.proofs.WithNode.{has-with-node}
 use Rattle.model.proofs.GreedyRuns.{GreedyRun, greedy-runs, only-greedy, greedy-is-set, greedy-within}
 
 pub record Lawful (t : Tree) (d : Demand) : Type 0 where
@@ -48,7 +50,8 @@ pub record Lawful (t : Tree) (d : Demand) : Type 0 where
   -- h. The order of ties, said without recursion.
   pub tiesSaid : (k l : List ℕ) → tiesBefore t k l ≡ true
       ↔ ((length k < length l) ⊎ ((length k ≡ length l) × ((v : ℕ) × Decides t k l 1 (t .count) v)))
-  -- i. The greedy rule, said without recursion; only its nodes fit.
+  -- i. The greedy rule, said without recursion; only its nodes fit. A set with one node more has that node and its own.
+  pub withNodeHas : (v u : ℕ) (k : List ℕ) → has (withNode v k) u ≡ (eqb v u || has k u)
   pub greedySaid : (b : ℕ) → GreedyRun t d b (greedyNodes t d b)
   pub greedyOnly : (b : ℕ) (g : List ℕ) → GreedyRun t d b g → g ≡ greedyNodes t d b
 
@@ -74,6 +77,7 @@ lawful file yes′ =
       greedyWithin = greedy-within t d;
       greedyNoLess = λ b. plan-least t d b (greedySet t d b) (greedy-is-set t d b) (greedy-within t d b);
       tiesSaid = ties-said t;
+      withNodeHas = has-with-node;
       greedySaid = greedy-runs t d;
       greedyOnly = only-greedy t d;
     }

@@ -88,31 +88,6 @@ module _ (t : Tree) where
       has-cases (has k v ≡ has l v) u v vs (λ e. rw (← e) (sym (bit-same (has l u) (has k u) (node .0))))
       (visits-neither k l vs (node .1) (node .2) v) m
 
--- ---- the rank
-
-module _ (t : Tree) (d : Demand) where
-  pub rank-irreflexive : (k : List ℕ) → ranksBefore t d k k ≡ false
-  unfolding ranksBefore tiesBefore
-  rank-irreflexive k = simp smaller-same (visits-irreflexive t k (sites t))
-
-  pub rank-transitive : (k l m : List ℕ) → ranksBefore t d k l ≡ true → ranksBefore t d l m ≡ true → ranksBefore t d k m ≡ true
-  unfolding ranksBefore tiesBefore
-  rank-transitive k l m = smaller-transitive _ _ _ (smaller-transitive _ _ _ (visits-transitive t k l m (sites t)))
-
-  -- two sets of which neither ranks before the other are one
-  rank-neither : (k l : List ℕ) → isSet t k ≡ true → isSet t l ≡ true
-      → ranksBefore t d k l ≡ false → ranksBefore t d l k ≡ false → k ≡ l
-  unfolding ranksBefore tiesBefore
-  rank-neither k l g h p q =
-      let totals = smaller-neither p q in
-      let sizes = smaller-neither (totals .1) (totals .2) in
-      same-members (t .count) 0 k l g h
-      (λ v i j. visits-neither t k l (sites t) (sizes .1) (sizes .2) v (in-range 1 (t .count - 1) v i (omega arith)))
-
-  pub rank-total : (k l : List ℕ) → isSet t k ≡ true → isSet t l ≡ true → (k ≡ l → ⊥)
-      → (ranksBefore t d k l ≡ true) ⊎ (ranksBefore t d l k ≡ true)
-  rank-total k l g h n = one-passes (ranksBefore t d k l) (ranksBefore t d l k) (λ p q. n (rank-neither k l g h p q))
-
 -- ---- the order of ties said without recursion
 
 -- how many nodes of K have v on their route
@@ -194,3 +169,28 @@ module _ (t : Tree) (k l : List ℕ) where
       ↔ ((length k < length l) ⊎ ((length k ≡ length l) × ((v : ℕ) × Decides 1 (t .count) v)))
   unfolding tiesBefore
   ties-said = Iff·trans smaller-said (rest-said (visits-decided (t .count - 1) 1 (t .count) refl))
+
+-- ---- the rank
+
+module _ (t : Tree) (d : Demand) where
+  pub rank-irreflexive : (k : List ℕ) → ranksBefore t d k k ≡ false
+  unfolding ranksBefore tiesBefore
+  rank-irreflexive k = simp smaller-same (visits-irreflexive t k (sites t))
+
+  pub rank-transitive : (k l m : List ℕ) → ranksBefore t d k l ≡ true → ranksBefore t d l m ≡ true → ranksBefore t d k m ≡ true
+  unfolding ranksBefore tiesBefore
+  rank-transitive k l m = smaller-transitive _ _ _ (smaller-transitive _ _ _ (visits-transitive t k l m (sites t)))
+
+  -- two sets of which neither ranks before the other are one
+  rank-neither : (k l : List ℕ) → isSet t k ≡ true → isSet t l ≡ true
+      → ranksBefore t d k l ≡ false → ranksBefore t d l k ≡ false → k ≡ l
+  unfolding ranksBefore tiesBefore
+  rank-neither k l g h p q =
+      let totals = smaller-neither p q in
+      let sizes = smaller-neither (totals .1) (totals .2) in
+      same-members (t .count) 0 k l g h
+      (λ v i j. visits-neither t k l (sites t) (sizes .1) (sizes .2) v (in-range 1 (t .count - 1) v i (omega arith)))
+
+  pub rank-total : (k l : List ℕ) → isSet t k ≡ true → isSet t l ≡ true → (k ≡ l → ⊥)
+      → (ranksBefore t d k l ≡ true) ⊎ (ranksBefore t d l k ≡ true)
+  rank-total k l g h n = one-passes (ranksBefore t d k l) (ranksBefore t d l k) (λ p q. n (rank-neither k l g h p q))

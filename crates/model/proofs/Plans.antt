@@ -49,6 +49,18 @@ module _ (t : Tree) (d : Demand) where
         ],
       ))
 
+  -- the first of K and a list comes no later than what K comes no later than, and each of the list
+  first-no-later : (k : List ℕ) (ls : List (List ℕ)) → isSet t k ≡ true → ((l : List ℕ) → List·Memᴰ l ls → isSet t l ≡ true)
+      → (m : List ℕ) → NoLater k m ⊎ List·Memᴰ m ls → NoLater (firstOf t d k ls) m
+  unfolding firstOf
+  first-no-later k [] g h m i = ⊎-elim (λ p. p) (λ j. absurd (List·Memᴰ·not-nil j)) i
+  first-no-later k (l ∷ ls) g h m i =
+      let s = h l (List·Memᴰ·head refl) in
+      let both-ways = kept-no-later k l g s in
+      first-no-later (kept k l) ls (kept-holds (λ x. isSet t x ≡ true) k l g s) (λ x j. h x (List·Memᴰ·tail j)) m
+      (⊎-elim (λ p. inl (no-later-transitive (kept k l) k m (both-ways .0) p))
+      (λ j. ⊎-map (λ e. rw e (both-ways .1)) (λ x. x) (List·Memᴰ·cases-cons j)) i)
+
   -- what holds of K and of each of a list holds of the first of them
   first-holds : (P : List ℕ → Type 0) (k : List ℕ) (ls : List (List ℕ)) → P k → ((l : List ℕ) → List·Memᴰ l ls → P l)
       → P (firstOf t d k ls)
@@ -57,27 +69,17 @@ module _ (t : Tree) (d : Demand) where
   first-holds P k (l ∷ ls) p q =
       first-holds P (kept k l) ls (kept-holds P k l p (q l (List·Memᴰ·head refl))) (λ m i. q m (List·Memᴰ·tail i))
 
-  -- the first of K and a list comes no later than what K comes no later than, and each of the list
-  first-no-later : (k : List ℕ) (ls : List (List ℕ)) → isSet t k ≡ true → ((l : List ℕ) → List·Memᴰ l ls → isSet t l ≡ true)
-      → (m : List ℕ) → NoLater k m ⊎ List·Memᴰ m ls → NoLater (firstOf t d k ls) m
-  unfolding firstOf
-  first-no-later k [] g h m i = ⊎-elim (λ p. p) (λ j. absurd (List·Memᴰ·not-nil j)) i
-  first-no-later k (l ∷ ls) g h m i =
-      let s = h l (List·Memᴰ·head refl) in
-      let leads = kept-no-later k l g s in
-      first-no-later (kept k l) ls (kept-holds (λ x. isSet t x ≡ true) k l g s) (λ x j. h x (List·Memᴰ·tail j)) m
-      (⊎-elim (λ p. inl (no-later-transitive (kept k l) k m (leads .0) p))
-      (λ j. ⊎-map (λ e. rw e (leads .1)) (λ x. x) (List·Memᴰ·cases-cons j)) i)
-
 module _ (t : Tree) (d : Demand) (b : ℕ) where
-  plan-no-later : (l : List ℕ) → isSet t l ≡ true → length l ≤ b → NoLater t d (plan t d b) l
-  unfolding plan ascends
-  plan-no-later l g h = first-no-later t d [] (allSets t b) refl (λ m i. all-sets t b m .0 i .0) l (inr (all-sets t b l .1 (g, h)))
-
+  -- the plan is a set of at most b nodes
   plan-fits : (isSet t (plan t d b) ≡ true) × (length (plan t d b) ≤ b)
   unfolding plan ascends
   plan-fits =
       first-holds t d (λ l. (isSet t l ≡ true) × (length l ≤ b)) [] (allSets t b) (refl, omega arith) (λ l. all-sets t b l .0)
+
+  -- it is each other one, or ranks before it
+  plan-no-later : (l : List ℕ) → isSet t l ≡ true → length l ≤ b → NoLater t d (plan t d b) l
+  unfolding plan ascends
+  plan-no-later l g h = first-no-later t d [] (allSets t b) refl (λ m i. all-sets t b m .0 i .0) l (inr (all-sets t b l .1 (g, h)))
 
   pub plan-ranks-first : RanksFirst t d b (plan t d b)
   plan-ranks-first =
