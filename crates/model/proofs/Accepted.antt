@@ -97,9 +97,9 @@ pub record Sound (t : Tree) (d : Demand) : Type 0 where
   pub some : 1 ≤ t .count
   pub few : t .count ≤ mostNodes
   pub preorder : Preorder t
-  pub server : t .len 0 ≡ 0
+  pub server : t .linkLength 0 ≡ 0
   pub shallow : (v : ℕ) → depth t v ≤ mostDepth
-  pub short : (v : ℕ) → t .len v ≤ mostLength
+  pub short : (v : ℕ) → t .linkLength v ≤ mostLength
   pub flow : (v : ℕ) → d .flow v ≤ mostFlow
   pub hit : (v : ℕ) → d .hit v ≤ mostHit
 
@@ -128,11 +128,11 @@ module _ (s : List ℕ) (yes′ : fileVerdict s ≡ passed) where
   at-most : (f : Field) (most : ℕ) → ((v : ℕ) → v < countOf s → fieldOf s f v ≤ most) → (v : ℕ) → fieldOf s f v ≤ most
   at-most f most h = everywhere (λ v. fieldOf s f v ≤ most) h (λ v l. omega (arith, past f v l))
 
-  server-length : treeOf s .len 0 ≡ 0
+  server-length : treeOf s .linkLength 0 ≡ 0
   unfolding lengthHolds
   server-length = eqb-true _ _ (sane 0 (head .some) .length)
 
-  short-link : (v : ℕ) → v < countOf s → treeOf s .len v ≤ mostLength
+  short-link : (v : ℕ) → v < countOf s → treeOf s .linkLength v ≤ mostLength
   unfolding lengthHolds
   short-link zero h = omega (arith, server-length)
   short-link (suc v) h = leb-true _ _ (sane (suc v) h .length)

@@ -7,7 +7,7 @@ use lib.ListN.{length}
 use Rattle.laws.specs.Lists.{sum}
 use Rattle.laws.proofs.Sums.{sum-le}
 use Rattle.model.specs.File.{Tree, Demand, mostDepth, mostLength, mostFlow}
-use Rattle.model.specs.Tree.{route, depth, dist}
+use Rattle.model.specs.Tree.{route, depth, distance}
 use Rattle.model.specs.Bill.{thousandths, totalLimit, price, cost, total, serving}
 use Rattle.model.proofs.Routes.{route-server, route-up, by-route}
 use Rattle.model.proofs.Nearest.{cost-is}
@@ -15,16 +15,16 @@ use Rattle.model.proofs.Accepted.{Sound}
 
 module _ (t : Tree) (d : Demand) (ok : Sound t d) where
   -- a route has a node more than its depth, and the server's length is 0
-  dist-by-route : (v : ℕ) → dist t v + mostLength ≤ mostLength * length (route t v)
-  unfolding dist sum
-  dist-by-route =
-      by-route t (ok .preorder) (λ v. sum (t .len) (route t v) + mostLength ≤ mostLength * length (route t v))
+  distance-by-route : (v : ℕ) → distance t v + mostLength ≤ mostLength * length (route t v)
+  unfolding distance sum
+  distance-by-route =
+      by-route t (ok .preorder) (λ v. sum (t .linkLength) (route t v) + mostLength ≤ mostLength * length (route t v))
       (rw (route-server t) (omega (arith, ok .server)))
       (λ i h. rw (route-up t (ok .preorder) i) (omega (arith, ok .short (suc i))))
 
-  pub dist-bound : (v : ℕ) → dist t v ≤ mostLength * mostDepth
+  pub distance-bound : (v : ℕ) → distance t v ≤ mostLength * mostDepth
   unfolding depth
-  dist-bound v = omega (arith, dist-by-route v, ok .shallow v)
+  distance-bound v = omega (arith, distance-by-route v, ok .shallow v)
 
   abbrev mostCost : ℕ
   mostCost = mostFlow * (thousandths * (mostLength * mostDepth))
@@ -32,8 +32,8 @@ module _ (t : Tree) (d : Demand) (ok : Sound t d) where
   cost-bound : (k : List ℕ) (c : ℕ) → cost t d k c ≤ mostCost
   unfolding price
   cost-bound k c =
-      let x = thousandths * dist t c - d .hit c * dist t (serving t k c) in
-      let far : x ≤ thousandths * (mostLength * mostDepth) = omega (arith, dist-bound c) in
+      let x = thousandths * distance t c - d .hit c * distance t (serving t k c) in
+      let far : x ≤ thousandths * (mostLength * mostDepth) = omega (arith, distance-bound c) in
       rw (cost-is t (ok .preorder) k d c) (mul-le-mul (ok .flow c) far)
 
   pub total-bound : (k : List ℕ) → total t d k < totalLimit

@@ -8,15 +8,15 @@ use lib.Dec.{eqb}
 use lib.ListN.{length}
 use Rattle.laws.specs.Lists.{has}
 use Rattle.model.specs.File.{Tree, Demand, treeOf, demandOf}
-use Rattle.model.specs.Tree.{route, dist}
+use Rattle.model.specs.Tree.{route, distance}
 use Rattle.model.specs.Rules.{fileVerdict, accepted, isSet}
 use Rattle.model.specs.Bill.{totalLimit, price, cost, total, linkTotal, serving}
 use Rattle.model.specs.Ties.{tiesBefore, ranksBefore}
 use Rattle.model.specs.Plan.{allSets, plan, planTotal}
 use Rattle.model.specs.Greedy.{withNode, greedyNodes, greedySet, greedyTotal}
-use Rattle.model.proofs.Verdicts.{holds-passed}
+use Rattle.model.proofs.Verdicts.{is-passed}
 use Rattle.model.proofs.Accepted.{accepted-sound}
-use Rattle.model.proofs.Nearest.{dist-grows, cost-is}
+use Rattle.model.proofs.Nearest.{distance-grows, cost-is}
 use Rattle.model.proofs.Loads.{links-total}
 use Rattle.model.proofs.Bounds.{total-bound}
 use Rattle.model.proofs.Sets.{all-sets}
@@ -27,7 +27,7 @@ use Rattle.model.proofs.GreedyRuns.{GreedyRun, greedy-runs, only-greedy
 
 pub record Lawful (t : Tree) (d : Demand) : Type 0 where
   -- a. Distances grow along a route, so the least price over the route is the price at the serving node.
-  pub distancesGrow : (u v : ℕ) → has (route t v) u ≡ true → dist t u ≤ dist t v
+  pub distancesGrow : (u v : ℕ) → has (route t v) u ≡ true → distance t u ≤ distance t v
   pub leastAtServing : (k : List ℕ) (c : ℕ) → cost t d k c ≡ price t d c (serving t k c)
   -- b. Over the links above nodes 1 to n − 1, loads times lengths add up to the total.
   pub loadsAddUp : (k : List ℕ) → linkTotal t d k ≡ total t d k
@@ -60,10 +60,10 @@ unfolding accepted
 lawful file yes′ =
     let t = treeOf file in
     let d = demandOf file in
-    let ok = accepted-sound file (holds-passed (fileVerdict file) yes′) in
+    let ok = accepted-sound file (is-passed (fileVerdict file) yes′) in
     let pre = ok .preorder in
     record {
-      distancesGrow = dist-grows t pre;
+      distancesGrow = distance-grows t pre;
       leastAtServing = λ k. cost-is t pre k d;
       loadsAddUp = λ k. links-total t d pre k (ok .server) (ok .hit);
       allSetsExact = all-sets t;

@@ -12,9 +12,9 @@ use Rattle.laws.proofs.Bools.{by-test}
 use Rattle.laws.proofs.Lists.{has-head, has-other, range-bounds}
 use Rattle.laws.proofs.Sums.{sum-mul, sum-none, sum-swap, sum-same, sum-those, sum-point}
 use Rattle.model.specs.File.{Tree, Demand}
-use Rattle.model.specs.Tree.{nodes, sites, route, atOrBelow, dist}
-use Rattle.model.specs.Bill.{thousandths, upTo, price, cost, total, clientLoad, load, linkTotal, serving}
-use Rattle.model.proofs.Routes.{route-server, Preorder, parent-before, route-up, by-route, dist-server, dist-up, route-before}
+use Rattle.model.specs.Tree.{nodes, sites, route, atOrBelow, distance}
+use Rattle.model.specs.Bill.{thousandths, upTo, price, cost, total, clientLoad, linkLoad, linkTotal, serving}
+use Rattle.model.proofs.Routes.{route-server, Preorder, parent-before, route-up, by-route, distance-server, distance-up, route-before}
 use Rattle.model.proofs.Nearest.{serving-server, serving-up, serving-near, cost-is}
 
 module _ (t : Tree) (d : Demand) (pre : Preorder t) (k : List ℕ) (c : ℕ) where
@@ -28,7 +28,7 @@ module _ (t : Tree) (d : Demand) (pre : Preorder t) (k : List ℕ) (c : ℕ) whe
 
   -- over the links above nodes 1 to m
   carried : ℕ → Bool → List ℕ → ℕ
-  carried m met l = sum (λ v. bears met l v * t .len v) (range 1 m)
+  carried m met l = sum (λ v. bears met l v * t .linkLength v) (range 1 m)
 
   bears-up : (met : Bool) (u v : ℕ) (l : List ℕ) → (v ≡ u → ⊥) → bears met (u ∷ l) v ≡ bears (met || has k u) l v
   unfolding bears upTo anyOf
@@ -41,15 +41,15 @@ module _ (t : Tree) (d : Demand) (pre : Preorder t) (k : List ℕ) (c : ℕ) whe
   -- one link further up
   carried-up : (m : ℕ) (met : Bool) (i : ℕ) → suc i ≤ m
       → let r = route t (t .parent (suc i)) in
-      carried m met (suc i ∷ r) ≡ sent (met || has k (suc i)) * t .len (suc i) + carried m (met || has k (suc i)) r
+      carried m met (suc i ∷ r) ≡ sent (met || has k (suc i)) * t .linkLength (suc i) + carried m (met || has k (suc i)) r
   unfolding carried
   carried-up m met i h =
       let r = route t (t .parent (suc i)) in
       let met′ = met || has k (suc i) in
       let off = route-before t pre (suc i) (t .parent (suc i)) (omega (arith, parent-before t pre i)) in
-      sum-point (λ v. bears met (suc i ∷ r) v * t .len v) (λ v. bears met′ r v * t .len v) (suc i) (sent met′ * t .len (suc i)) 1 m
-      (omega (arith, ap (λ x. x * t .len (suc i)) (bears-here met (suc i) r off)))
-      (λ v n. ap (λ x. x * t .len v) (bears-up met (suc i) v r n))
+      sum-point (λ v. bears met (suc i ∷ r) v * t .linkLength v) (λ v. bears met′ r v * t .linkLength v) (suc i) (sent met′ * t .linkLength (suc i)) 1 m
+      (omega (arith, ap (λ x. x * t .linkLength (suc i)) (bears-here met (suc i) r off)))
+      (λ v n. ap (λ x. x * t .linkLength v) (bears-up met (suc i) v r n))
       (omega arith)
       (omega arith)
 
@@ -70,29 +70,29 @@ module _ (t : Tree) (d : Demand) (pre : Preorder t) (k : List ℕ) (c : ℕ) whe
   -- over the links from v up the client sends less on each once a cache was met, and else from its serving node on
   abbrev Carried : ℕ → ℕ → Type 0
   Carried m v =
-      (carried m true (route t v) ≡ sent true * dist t v)
-      × (carried m false (route t v) + saved * dist t (serving t k v) ≡ sent false * dist t v)
+      (carried m true (route t v) ≡ sent true * distance t v)
+      × (carried m false (route t v) + saved * distance t (serving t k v) ≡ sent false * distance t v)
 
-  module _ (z : t .len 0 ≡ 0) (h : d .hit c ≤ thousandths) where
+  module _ (z : t .linkLength 0 ≡ 0) (h : d .hit c ≤ thousandths) where
     carried-step : (m i : ℕ) → suc i ≤ m → Carried m (t .parent (suc i)) → Carried m (suc i)
     carried-step m i l ih =
         let p = t .parent (suc i) in
-        let x = t .len (suc i) in
+        let x = t .linkLength (suc i) in
         let less = ap (λ s. s * x) (sent-saved h) in
-        let less′ = ap (λ s. s * dist t p) (sent-saved h) in
-        rw (route-up t pre i, dist-up t pre i, carried-up m true i l, carried-up m false i l, serving-up t pre k i)
+        let less′ = ap (λ s. s * distance t p) (sent-saved h) in
+        rw (route-up t pre i, distance-up t pre i, carried-up m true i l, carried-up m false i l, serving-up t pre k i)
         (by-test
         (λ u.
-        (sent true * x + carried m true (route t p) ≡ sent true * (x + dist t p))
-        × (sent u * x + carried m u (route t p) + saved * dist t (cond u (suc i) (serving t k p)) ≡ sent false * (x + dist t p)))
+        (sent true * x + carried m true (route t p) ≡ sent true * (x + distance t p))
+        × (sent u * x + carried m u (route t p) + saved * distance t (cond u (suc i) (serving t k p)) ≡ sent false * (x + distance t p)))
         (has k (suc i))
-        (λ _. rw (dist-up t pre i) (omega (arith, ih .0, less, less′)))
+        (λ _. rw (distance-up t pre i) (omega (arith, ih .0, less, less′)))
         (λ _. omega (arith, ih .0, ih .1)))
 
     carried-all : (m v : ℕ) → v ≤ m → Carried m v
     carried-all m =
         by-route t pre (λ v. v ≤ m → Carried m v)
-        (λ _. rw (serving-server t pre k, dist-server t z) (omega (arith, carried-server m true, carried-server m false)))
+        (λ _. rw (serving-server t pre k, distance-server t z) (omega (arith, carried-server m true, carried-server m false)))
         (λ i ih l. carried-step m i l (ih (omega (arith, parent-before t pre i))))
 
     -- what the client carries over all links is its cost
@@ -101,19 +101,19 @@ module _ (t : Tree) (d : Demand) (pre : Preorder t) (k : List ℕ) (c : ℕ) whe
     carried-is m l =
         let s = serving t k c in
         rw (cost-is t pre k d c)
-        (omega (arith, carried-all m c l .1, mul-assoc (d .flow c) (d .hit c) (dist t s), mul-assoc (d .flow c) thousandths (dist t c), mul-sub-add (d .flow c) (thousandths * dist t c) (d .hit c * dist t s) (mul-le-mul h (serving-near t pre k c))))
+        (omega (arith, carried-all m c l .1, mul-assoc (d .flow c) (d .hit c) (distance t s), mul-assoc (d .flow c) thousandths (distance t c), mul-sub-add (d .flow c) (thousandths * distance t c) (d .hit c * distance t s) (mul-le-mul h (serving-near t pre k c))))
 
 module _ (t : Tree) (d : Demand) (pre : Preorder t) (k : List ℕ) where
-  load-is : (v : ℕ) → 1 ≤ v → load t d k v ≡ sum (λ c. bears t d pre k c false (route t c) v) (nodes t)
-  unfolding load clientLoad atOrBelow bears sent
-  load-is zero h = absurd (omega arith)
-  load-is (suc v) h = sum-those (clientLoad t d k (suc v)) (atOrBelow t (suc v)) (nodes t)
+  link-load-is : (v : ℕ) → 1 ≤ v → linkLoad t d k v ≡ sum (λ c. bears t d pre k c false (route t c) v) (nodes t)
+  unfolding linkLoad clientLoad atOrBelow bears sent
+  link-load-is zero h = absurd (omega arith)
+  link-load-is (suc v) h = sum-those (clientLoad t d k (suc v)) (atOrBelow t (suc v)) (nodes t)
 
-  pub links-total : t .len 0 ≡ 0 → ((c : ℕ) → d .hit c ≤ thousandths) → linkTotal t d k ≡ total t d k
+  pub links-total : t .linkLength 0 ≡ 0 → ((c : ℕ) → d .hit c ≤ thousandths) → linkTotal t d k ≡ total t d k
   unfolding linkTotal total carried
   links-total z h =
       let m = t .count - 1 in
-      sum-same (λ v. load t d k v * t .len v) (λ v. sum (λ c. bears t d pre k c false (route t c) v * t .len v) (nodes t)) (sites t)
-      (λ v i. rw (load-is v (range-bounds 1 m v i .0)) (sum-mul (λ c. bears t d pre k c false (route t c) v) (t .len v) (nodes t)))
-      ∙ sum-swap (λ v c. bears t d pre k c false (route t c) v * t .len v) (sites t) (nodes t)
+      sum-same (λ v. linkLoad t d k v * t .linkLength v) (λ v. sum (λ c. bears t d pre k c false (route t c) v * t .linkLength v) (nodes t)) (sites t)
+      (λ v i. rw (link-load-is v (range-bounds 1 m v i .0)) (sum-mul (λ c. bears t d pre k c false (route t c) v) (t .linkLength v) (nodes t)))
+      ∙ sum-swap (λ v c. bears t d pre k c false (route t c) v * t .linkLength v) (sites t) (nodes t)
       ∙ sum-same _ (cost t d k) (nodes t) (λ c i. carried-is t d pre k c z (h c) m (let b = range-bounds 0 (t .count) c i in omega arith))

@@ -9,18 +9,18 @@ use Rattle.laws.specs.Lists.{least, has, those, firstThat}
 use Rattle.laws.proofs.Bools.{by-test, cond-same}
 use Rattle.laws.proofs.Lists.{has-cases, has-none}
 use Rattle.model.specs.File.{Tree, Demand}
-use Rattle.model.specs.Tree.{route, dist}
+use Rattle.model.specs.Tree.{route, distance}
 use Rattle.model.specs.Bill.{thousandths, price, cost, serving}
-use Rattle.model.proofs.Routes.{route-server, Preorder, route-up, by-route, dist-up}
+use Rattle.model.proofs.Routes.{route-server, Preorder, route-up, by-route, distance-up}
 
 -- distances grow along a route
-pub dist-grows : (t : Tree) → Preorder t → (u v : ℕ) → has (route t v) u ≡ true → dist t u ≤ dist t v
-dist-grows t pre u =
-    by-route t pre (λ v. has (route t v) u ≡ true → dist t u ≤ dist t v)
+pub distance-grows : (t : Tree) → Preorder t → (u v : ℕ) → has (route t v) u ≡ true → distance t u ≤ distance t v
+distance-grows t pre u =
+    by-route t pre (λ v. has (route t v) u ≡ true → distance t u ≤ distance t v)
     (rw (route-server t) (has-cases _ 0 u [] (λ e. rw e (omega arith)) (λ m. absurd (has-none u m))))
     (λ i ih. rw (route-up t pre i) (has-cases _ (suc i) u (route t (t .parent (suc i)))
     (λ e. rw e (omega arith))
-    (λ m. omega (arith, ih m, dist-up t pre i))))
+    (λ m. omega (arith, ih m, distance-up t pre i))))
 
 module _ (t : Tree) (pre : Preorder t) (k : List ℕ) where
   pub serving-server : serving t k 0 ≡ 0
@@ -33,23 +33,23 @@ module _ (t : Tree) (pre : Preorder t) (k : List ℕ) where
   serving-up i = ap (firstThat (has k) 0) (route-up t pre i)
 
   -- the serving node is no farther from the server than the node
-  pub serving-near : (v : ℕ) → dist t (serving t k v) ≤ dist t v
+  pub serving-near : (v : ℕ) → distance t (serving t k v) ≤ distance t v
   serving-near =
-      by-route t pre (λ v. dist t (serving t k v) ≤ dist t v)
+      by-route t pre (λ v. distance t (serving t k v) ≤ distance t v)
       (rw serving-server (omega arith))
       (λ i h. rw (serving-up i)
-      (by-test (λ b. dist t (cond b (suc i) (serving t k (t .parent (suc i)))) ≤ dist t (suc i)) (has k (suc i))
+      (by-test (λ b. distance t (cond b (suc i) (serving t k (t .parent (suc i)))) ≤ distance t (suc i)) (has k (suc i))
       (λ _. omega arith)
-      (λ _. omega (arith, dist-up t pre i))))
+      (λ _. omega (arith, distance-up t pre i))))
 
   module _ (d : Demand) (c : ℕ) where
     -- a nearer node to the client costs it no more
-    price-falls : (v w : ℕ) → dist t w ≤ dist t v → price t d c v ≤ price t d c w
+    price-falls : (v w : ℕ) → distance t w ≤ distance t v → price t d c v ≤ price t d c w
     unfolding price
-    price-falls v w h = mul-le-mul-left (d .flow c) (sub-le-sub-left (mul-le-mul-left (d .hit c) h) (thousandths * dist t c))
+    price-falls v w h = mul-le-mul-left (d .flow c) (sub-le-sub-left (mul-le-mul-left (d .hit c) h) (thousandths * distance t c))
 
     -- one link up: v is met first, or the rest of the route decides
-    least-up : (v w : ℕ) (l : List ℕ) → dist t w ≤ dist t v → least (price t d c) 0 (those (has k) l) ≡ price t d c w
+    least-up : (v w : ℕ) (l : List ℕ) → distance t w ≤ distance t v → least (price t d c) 0 (those (has k) l) ≡ price t d c w
         → least (price t d c) 0 (those (has k) (v ∷ l)) ≡ price t d c (cond (has k v) v w)
     unfolding least those
     least-up v w l h e =
@@ -63,7 +63,7 @@ module _ (t : Tree) (pre : Preorder t) (k : List ℕ) where
         by-route t pre (λ v. least (price t d c) 0 (those (has k) (route t v)) ≡ price t d c (serving t k v))
         (rw (route-server t, serving-server) (least-up 0 0 [] (omega arith) refl ∙ ap (price t d c) (cond-same (has k 0) 0)))
         (λ i h. let p = t .parent (suc i) in
-        rw (route-up t pre i, serving-up i) (least-up (suc i) (serving t k p) (route t p) (omega (arith, serving-near p, dist-up t pre i)) h))
+        rw (route-up t pre i, serving-up i) (least-up (suc i) (serving t k p) (route t p) (omega (arith, serving-near p, distance-up t pre i)) h))
 
     -- the client at c pays the price at its serving node
     pub cost-is : cost t d k c ≡ price t d c (serving t k c)

@@ -9,16 +9,16 @@ use Rattle.laws.specs.Lists.{has, sum}
 use Rattle.laws.proofs.Bools.{by-test}
 use Rattle.laws.proofs.Lists.{has-cases, has-none, has-head, has-tail}
 use Rattle.model.specs.File.{Tree}
-use Rattle.model.specs.Tree.{climb, route, dist}
+use Rattle.model.specs.Tree.{climb, route, distance}
 
 module _ (t : Tree) where
   pub route-server : route t 0 ≡ 0 ∷ []
   unfolding route climb
   route-server = refl
 
-  pub dist-server : t .len 0 ≡ 0 → dist t 0 ≡ 0
-  unfolding dist sum
-  dist-server z = rw (route-server, z)
+  pub distance-server : t .linkLength 0 ≡ 0 → distance t 0 ≡ 0
+  unfolding distance sum
+  distance-server z = rw (route-server, z)
 
   climb-ends : (k v : ℕ) → has (climb (t .parent) k v) 0 ≡ true
   unfolding climb
@@ -87,9 +87,9 @@ module _ (t : Tree) where
     pub by-route : (P : ℕ → Type 0) → P 0 → ((i : ℕ) → P (t .parent (suc i)) → P (suc i)) → (v : ℕ) → P v
     by-route P z s v = up-from P z s v v (omega arith)
 
-    pub dist-up : (i : ℕ) → dist t (suc i) ≡ t .len (suc i) + dist t (t .parent (suc i))
-    unfolding dist sum
-    dist-up i = ap (sum (t .len)) (route-up i)
+    pub distance-up : (i : ℕ) → distance t (suc i) ≡ t .linkLength (suc i) + distance t (t .parent (suc i))
+    unfolding distance sum
+    distance-up i = ap (sum (t .linkLength)) (route-up i)
 
     -- the nodes on a route are not after its first
     pub route-le : (u v : ℕ) → has (route t v) u ≡ true → u ≤ v

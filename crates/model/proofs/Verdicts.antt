@@ -3,7 +3,7 @@ use mathlib.Core.Path.{_≡_, refl}
 use mathlib.Core.Bool.{Bool, true, false, false≢true}
 use Prim.Native.Nat.{ℕ}
 use native.Mathlib.Omega.{arith}
-use Rattle.model.specs.Rules.{Verdict, passed, broken, ask, _then_, holds}
+use Rattle.model.specs.Rules.{Verdict, passed, broken, ask, _then_, isPassed}
 
 pub broken≢passed : {q i : ℕ} → broken q i ≡ passed → ⊥
 broken≢passed e = let z : _≡_ {A = ℕ} 0 1 = cc in omega arith
@@ -16,6 +16,6 @@ pub then-passed : (a b : Verdict) → (a then b) ≡ passed → (a ≡ passed) �
 then-passed passed b e = (refl, e)
 then-passed (broken q i) b e = absurd (broken≢passed e)
 
-pub holds-passed : (a : Verdict) → holds a ≡ true → a ≡ passed
-holds-passed passed e = refl
-holds-passed (broken q i) e = absurd (false≢true e)
+pub is-passed : (a : Verdict) → isPassed a ≡ true → a ≡ passed
+is-passed passed e = refl
+is-passed (broken q i) e = absurd (false≢true e)

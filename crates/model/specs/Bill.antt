@@ -5,7 +5,7 @@ use Prim.Native.Nat.{ℕ, zero, suc, _*_, _-_, _^_}
 use lib.Dec.{eqb}
 use Rattle.laws.specs.Lists.{sum, least, has, anyOf, those, firstThat}
 use Rattle.model.specs.File.{Tree, Demand}
-use Rattle.model.specs.Tree.{nodes, sites, route, atOrBelow, dist}
+use Rattle.model.specs.Tree.{nodes, sites, route, atOrBelow, distance}
 
 -- hits, loads and totals count in thousandths: the 1,000 of the formulas
 abbrev pub thousandths : ℕ
@@ -23,7 +23,7 @@ upTo v (u ∷ us) = let r = upTo v us in u ∷ cond (eqb u v) [] r
 module _ (t : Tree) (d : Demand) where
   -- f × (1,000 × d(c) − p × d(v)): what the client at c would cost if v served it
   unfoldable pub price : ℕ → ℕ → ℕ
-  price c v = d .flow c * (thousandths * dist t c - d .hit c * dist t v)
+  price c v = d .flow c * (thousandths * distance t c - d .hit c * distance t v)
 
   -- the least over its route: the server, and each member of K
   unfoldable pub cost : List ℕ → ℕ → ℕ
@@ -39,13 +39,13 @@ module _ (t : Tree) (d : Demand) where
   clientLoad k v c = d .flow c * cond (anyOf (has k) (upTo v (route t c))) (thousandths - d .hit c) thousandths
 
   -- the load on the link above v; node 0 has load 0
-  unfoldable pub load : List ℕ → ℕ → ℕ
-  load k zero = 0
-  load k (suc v) = sum (clientLoad k (suc v)) (those (atOrBelow t (suc v)) (nodes t))
+  unfoldable pub linkLoad : List ℕ → ℕ → ℕ
+  linkLoad k zero = 0
+  linkLoad k (suc v) = sum (clientLoad k (suc v)) (those (atOrBelow t (suc v)) (nodes t))
 
   -- "over the links above nodes 1 to n − 1, loads times lengths"
   unfoldable pub linkTotal : List ℕ → ℕ
-  linkTotal k = sum (λ v. load k v * t .len v) (sites t)
+  linkTotal k = sum (λ v. linkLoad k v * t .linkLength v) (sites t)
 
 -- the serving node: "the first member of K met going up from the node, itself included, else 0"
 unfoldable pub serving : Tree → List ℕ → ℕ → ℕ

@@ -9,8 +9,8 @@ use lib.ListN.{length, drop}
 use Rattle.laws.specs.Lists.{range, part}
 use Rattle.model.specs.File.{treeOf, demandOf, countOf, budgetOf, recordAt, recordLength}
 use Rattle.model.specs.Tree.{nodes}
-use Rattle.model.specs.Rules.{Verdict, passed, broken, _then_, fileVerdict, accepted, askSet, scratchWords, askScratch, hasRoom, askBuffers}
-use Rattle.model.specs.Bill.{total, load, serving}
+use Rattle.model.specs.Rules.{Verdict, passed, broken, _then_, fileVerdict, accepted, askSet, scratchWords, askScratch, longEnough, askBuffers}
+use Rattle.model.specs.Bill.{total, linkLoad, serving}
 use Rattle.model.specs.Ties.{ranksBefore}
 use Rattle.model.specs.Plan.{plan, planTotal, row}
 use Rattle.model.specs.Greedy.{greedyNodes, greedyTotal}
@@ -54,19 +54,21 @@ recordBytes file v = cond (accepted file && ltb v (countOf file)) (part file (re
 
 -- ---- the bill of a set
 
+-- "Buffers: n entries each"
+abbrev pub billBuffersLong : List ℕ → List ℕ → List ℕ → Bool
+billBuffersLong file servings loads = longEnough (countOf file) servings && longEnough (countOf file) loads
+
 unfoldable pub billVerdict : List ℕ → List ℕ → List ℕ → List ℕ → Verdict
-billVerdict file set servings loads =
-    fileVerdict file
-    then askSet file set
-    then askBuffers (hasRoom (countOf file) servings && hasRoom (countOf file) loads)
+billVerdict file set servings loads = fileVerdict file then askSet file set then askBuffers (billBuffersLong file servings loads)
 
 abbrev pub servingNodes : List ℕ → List ℕ → List ℕ
 servingNodes file set = map (serving (treeOf file) set) (nodes (treeOf file))
 
 abbrev pub linkLoads : List ℕ → List ℕ → List ℕ
-linkLoads file set = map (load (treeOf file) (demandOf file) set) (nodes (treeOf file))
+linkLoads file set = map (linkLoad (treeOf file) (demandOf file) set) (nodes (treeOf file))
 
-pub record Bill (file set servings loads : List ℕ) (a : Answer ℕ) (servings′ loads′ : List ℕ) : Type 0 where
+-- what the bill call owes for all arguments
+pub record BillCall (file set servings loads : List ℕ) (a : Answer ℕ) (servings′ loads′ : List ℕ) : Type 0 where
   pub answers : a ≡ answer (billVerdict file set servings loads) (total (treeOf file) (demandOf file) set)
   pub servingsAfter : servings′ ≡ after (billVerdict file set servings loads) (servingNodes file set) servings
   pub loadsAfter : loads′ ≡ after (billVerdict file set servings loads) (linkLoads file set) loads
@@ -104,14 +106,14 @@ planTotals file = map (planTotal (treeOf file) (demandOf file)) (budgets file)
 unfoldable pub planRows : List ℕ → List ℕ
 planRows file = flatMap (λ b. row (budgetOf file) (plan (treeOf file) (demandOf file) b)) (budgets file)
 
--- is there room for the totals, and for the rows?
-abbrev pub planRoom : List ℕ → List ℕ → List ℕ → Bool
-planRoom file totals rows = hasRoom (suc (budgetOf file)) totals && hasRoom (suc (budgetOf file) * budgetOf file) rows
+abbrev pub planBuffersLong : List ℕ → List ℕ → List ℕ → Bool
+planBuffersLong file totals rows = longEnough (suc (budgetOf file)) totals && longEnough (suc (budgetOf file) * budgetOf file) rows
 
 unfoldable pub planVerdict : List ℕ → List ℕ → List ℕ → List ℕ → Verdict
-planVerdict file scratch totals rows = fileVerdict file then askScratch file scratch then askBuffers (planRoom file totals rows)
+planVerdict file scratch totals rows = fileVerdict file then askScratch file scratch then askBuffers (planBuffersLong file totals rows)
 
-pub record Plan (file scratch totals rows : List ℕ) (v : Verdict) (scratch′ totals′ rows′ : List ℕ) : Type 0 where
+-- what the plan call owes for all arguments
+pub record PlanCall (file scratch totals rows : List ℕ) (v : Verdict) (scratch′ totals′ rows′ : List ℕ) : Type 0 where
   pub verdict : v ≡ planVerdict file scratch totals rows
   pub scratchAfter : ScratchAfter v file scratch scratch′
   pub totalsAfter : totals′ ≡ after v (planTotals file) totals
@@ -125,14 +127,15 @@ greedyTotals file = map (greedyTotal (treeOf file) (demandOf file)) (budgets fil
 unfoldable pub greedyRow : List ℕ → List ℕ
 greedyRow file = row (budgetOf file) (greedyNodes (treeOf file) (demandOf file) (budgetOf file))
 
-abbrev pub greedyRoom : List ℕ → List ℕ → List ℕ → Bool
-greedyRoom file totals taken = hasRoom (suc (budgetOf file)) totals && hasRoom (budgetOf file) taken
+abbrev pub greedyBuffersLong : List ℕ → List ℕ → List ℕ → Bool
+greedyBuffersLong file totals taken = longEnough (suc (budgetOf file)) totals && longEnough (budgetOf file) taken
 
 unfoldable pub greedyVerdict : List ℕ → List ℕ → List ℕ → List ℕ → Verdict
 greedyVerdict file scratch totals taken =
-    fileVerdict file then askScratch file scratch then askBuffers (greedyRoom file totals taken)
+    fileVerdict file then askScratch file scratch then askBuffers (greedyBuffersLong file totals taken)
 
-pub record Greedy (file scratch totals taken : List ℕ) (v : Verdict) (scratch′ totals′ taken′ : List ℕ) : Type 0 where
+-- what the greedy call owes for all arguments
+pub record GreedyCall (file scratch totals taken : List ℕ) (v : Verdict) (scratch′ totals′ taken′ : List ℕ) : Type 0 where
   pub verdict : v ≡ greedyVerdict file scratch totals taken
   pub scratchAfter : ScratchAfter v file scratch scratch′
   pub totalsAfter : totals′ ≡ after v (greedyTotals file) totals

@@ -93,14 +93,14 @@ pub record Tree : Type 0 where
   pub count : ℕ
   pub parent : ℕ → ℕ
   -- the length of the link to the parent
-  pub len : ℕ → ℕ
+  pub linkLength : ℕ → ℕ
 
 pub record Demand : Type 0 where
   pub flow : ℕ → ℕ
   pub hit : ℕ → ℕ
 
 abbrev pub treeOf : List ℕ → Tree
-treeOf s = record { count = countOf s; parent = fieldOf s parentField; len = fieldOf s lengthField }
+treeOf s = record { count = countOf s; parent = fieldOf s parentField; linkLength = fieldOf s lengthField }
 
 abbrev pub demandOf : List ℕ → Demand
 demandOf s = record { flow = fieldOf s flowField; hit = fieldOf s hitField }

@@ -13,7 +13,7 @@ use Rattle.model.specs.Bill.{total, linkTotal}
 use Rattle.model.specs.Ties.{tiesBefore}
 use Rattle.model.specs.Plan.{plan, planTotal}
 use Rattle.model.specs.Greedy.{greedyTotal}
-use Rattle.model.specs.Calls.{after, ScratchAfter, budgets, planTotals, planRows, planRoom, greedyTotals, greedyRow, greedyRoom}
+use Rattle.model.specs.Calls.{after, ScratchAfter, budgets, planTotals, planRows, planBuffersLong, greedyTotals, greedyRow, greedyBuffersLong}
 
 -- ---- demand 3
 
@@ -51,9 +51,10 @@ unfoldable pub reportVerdict : List ℕ → List ℕ → List ℕ → List ℕ �
 reportVerdict file scratch totals rows greedys taken =
     fileVerdict file
     then askScratch file scratch
-    then askBuffers (planRoom file totals rows && greedyRoom file greedys taken)
+    then askBuffers (planBuffersLong file totals rows && greedyBuffersLong file greedys taken)
 
-pub record Report (file scratch totals rows greedys taken : List ℕ) (v : Verdict) (scratch′ totals′ rows′ greedys′ taken′ : List ℕ) : Type 0 where
+-- what the report call owes for all arguments
+pub record ReportCall (file scratch totals rows greedys taken : List ℕ) (v : Verdict) (scratch′ totals′ rows′ greedys′ taken′ : List ℕ) : Type 0 where
   pub verdict : v ≡ reportVerdict file scratch totals rows greedys taken
   pub scratchAfter : ScratchAfter v file scratch scratch′
   pub totalsAfter : totals′ ≡ after v (planTotals file) totals
@@ -69,7 +70,7 @@ unfoldable pub digits : ℕ → ℕ → List ℕ
 digits zero x = []
 digits (suc k) x = elim (ltb x 10) as (λ _. List ℕ) [ true ↦ (48 + x) ∷ [] | false ↦ digits k (x / 10) ++ ((48 + x % 10) ∷ []) ]
 
--- x has fewer than x + 2 digits
+-- x has at most x + 1 digits
 unfoldable pub decimal : ℕ → List ℕ
 decimal x = digits (suc x) x
 

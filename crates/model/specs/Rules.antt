@@ -25,9 +25,9 @@ abbrev pub _then_ : Verdict → Verdict → Verdict
 _then_ passed rest = rest
 _then_ (broken q i) rest = broken q i
 
-abbrev pub holds : Verdict → Bool
-holds passed = true
-holds (broken q i) = false
+abbrev pub isPassed : Verdict → Bool
+isPassed passed = true
+isPassed (broken q i) = false
 
 -- ---- rules 7 to 11, record by record
 
@@ -38,10 +38,10 @@ parentHolds t (suc i) = has (route t i) (t .parent (suc i))
 
 -- 9: "Is the length 0 (node 0), or at most 1,000?"
 unfoldable pub lengthHolds : Tree → ℕ → Bool
-lengthHolds t zero = eqb (t .len 0) 0
-lengthHolds t (suc i) = leb (t .len (suc i)) (lengthField .most)
+lengthHolds t zero = eqb (t .linkLength 0) 0
+lengthHolds t (suc i) = leb (t .linkLength (suc i)) (lengthField .most)
 
--- 8: the depth; 10: the flow; 11: the hit
+-- 8: "Is the depth at most 32?" 10: "Is the flow at most 100,000,000?" 11: "Is the hit at most 1,000?"
 unfoldable pub recordVerdict : Tree → Demand → ℕ → Verdict
 recordVerdict t d i =
     ask 7 i (parentHolds t i)
@@ -50,14 +50,15 @@ recordVerdict t d i =
     then ask 10 i (leb (d .flow i) (flowField .most))
     then ask 11 i (leb (d .hit i) (hitField .most))
 
--- the first n records, each through 7 to 11 before the next
+-- the first n records, "each through 7 to 11 before the next"
 unfoldable pub recordsVerdict : Tree → Demand → ℕ → Verdict
 recordsVerdict t d zero = passed
 recordsVerdict t d (suc i) = recordsVerdict t d i then recordVerdict t d i
 
 -- ---- rules 1 to 11
 
--- 1: at least 9 bytes; 2: the mark; 3: the version; 4: n; 5: k; 6: exactly 9 + 10 × n bytes
+-- 1: "Are there at least 9 bytes?" 2: "Do they begin with the mark?" 3: "Is the version 1?" 4: "Is n from 1 to 1,024?"
+-- 5: "Is k from 0 to 32?" 6: "Is the file exactly 9 + 10 × n bytes?" Then the records.
 unfoldable pub fileVerdict : List ℕ → Verdict
 fileVerdict s =
     ask 1 0 (leb headerLength (length s))
@@ -70,9 +71,9 @@ fileVerdict s =
 
 -- "A file is accepted when no question about the file itself, here 1 to 11, gets a no"
 unfoldable pub accepted : List ℕ → Bool
-accepted s = holds (fileVerdict s)
+accepted s = isPassed (fileVerdict s)
 
--- ---- rules 12 to 15, where a call takes them
+-- ---- rules 12 to 15, where a call takes them; each names record 0
 
 -- strictly ascending from above a on, each below n
 unfoldable pub ascends : ℕ → ℕ → List ℕ → Bool
@@ -83,6 +84,7 @@ ascends a n (v ∷ vs) = ltb a v && ltb v n && ascends v n vs
 abbrev pub isSet : Tree → List ℕ → Bool
 isSet t k = ascends 0 (t .count) k
 
+-- 12: "Is the set strictly ascending, each from 1 to n − 1?"
 abbrev pub askSet : List ℕ → List ℕ → Verdict
 askSet s k = ask 12 0 (isSet (treeOf s) k)
 
@@ -93,18 +95,21 @@ scratchWords s =
     t .count * (height t + 1) * (budgetOf s + 1) + 4 * t .count
 
 -- "Scratch is enough when 13 passes"
-abbrev pub scratchIsEnough : List ℕ → List ℕ → Bool
-scratchIsEnough s scratch = leb (scratchWords s) (length scratch)
+abbrev pub enoughScratch : List ℕ → List ℕ → Bool
+enoughScratch s scratch = leb (scratchWords s) (length scratch)
 
+-- 13: "has the scratch at least .. words of 64 bits?"
 abbrev pub askScratch : List ℕ → List ℕ → Verdict
-askScratch s scratch = ask 13 0 (scratchIsEnough s scratch)
+askScratch s scratch = ask 13 0 (enoughScratch s scratch)
 
--- has the buffer room for m entries? Buffers are long enough where this holds of each.
-abbrev pub hasRoom : ℕ → List ℕ → Bool
-hasRoom m buffer = leb m (length buffer)
+-- is a buffer long enough for m entries?
+abbrev pub longEnough : ℕ → List ℕ → Bool
+longEnough m buffer = leb m (length buffer)
 
+-- 14: "Is every answer buffer long enough?" Calls names for each call the test of its buffers.
 abbrev pub askBuffers : Bool → Verdict
-askBuffers longEnough = ask 14 0 longEnough
+askBuffers all = ask 14 0 all
 
+-- 15: "For the report program only": the tests are in Report
 abbrev pub askProgram : Bool → Verdict
 askProgram small = ask 15 0 small

@@ -38,5 +38,5 @@ module _ (t : Tree) where
   height = greatest depth nodes
 
   -- d(v), "the sum of lengths from v to the server". The server's own length is 0 by question 9.
-  unfoldable pub dist : ℕ → ℕ
-  dist v = sum (t .len) (route v)
+  unfoldable pub distance : ℕ → ℕ
+  distance v = sum (t .linkLength) (route v)
