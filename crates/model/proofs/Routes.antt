@@ -3,7 +3,6 @@ use mathlib.Core.Path.{_≡_, refl, ap}
 use mathlib.Core.Bool.{true, false}
 use mathlib.Core.List.{[], _∷_}
 use Prim.Native.Nat.{ℕ, zero, suc, _+_, _≤_, _<_}
-use native.Mathlib.Decide.{decLt}
 use native.Mathlib.Omega.{arith}
 use Rattle.laws.specs.Lists.{has, sum}
 use Rattle.laws.proofs.Bools.{by-test}
@@ -31,10 +30,12 @@ module _ (t : Tree) where
   unfolding route
   route-ends v = climb-ends v v
 
-  -- rule 7 at every node
-  abbrev pub Preorder : Type 0
-  Preorder = (i : ℕ) → has (route t i) (t .parent (suc i)) ≡ true
+  -- ---- where rule 7 holds of the nodes below n
 
+  abbrev pub PreorderTo : ℕ → Type 0
+  PreorderTo n = (i : ℕ) → suc i < n → has (route t i) (t .parent (suc i)) ≡ true
+
+  -- the nodes on a route are not after its first
   climb-le : (k v u : ℕ) → ((x : ℕ) → x < v → t .parent (suc x) ≤ x) → has (climb (t .parent) k v) u ≡ true → u ≤ v
   unfolding climb
   climb-le zero v u f = has-cases (u ≤ v) 0 u [] (λ e. omega arith) (λ e. absurd (has-none u e))
@@ -44,38 +45,44 @@ module _ (t : Tree) where
       has-cases (u ≤ suc v) (suc v) u (climb (t .parent) k (t .parent (suc v))) (λ e. omega arith)
       (λ e. omega (arith, climb-le k (t .parent (suc v)) u (λ x h. f x (omega arith)) e))
 
-  parents-before : Preorder → (n i : ℕ) → i < n → t .parent (suc i) ≤ i
+  -- a parent stands before its node
+  pub parent-before-to : (n : ℕ) → PreorderTo n → (i : ℕ) → suc i < n → t .parent (suc i) ≤ i
   unfolding route
-  parents-before pre zero i h = absurd (omega arith)
-  parents-before pre (suc n) i h =
-      elim (decLt i n) [
-        | yes l ↦ parents-before pre n i l
-        | no l ↦
-            let e : n ≡ i = omega arith in
-            let p : t .parent (suc n) ≤ n = climb-le n n (t .parent (suc n)) (parents-before pre n) (pre n) in
-            rw e at p
-      ]
+  parent-before-to zero pre i h = absurd (omega arith)
+  parent-before-to (suc n) pre i h =
+      climb-le i i (t .parent (suc i)) (λ x l. parent-before-to n (λ j k. pre j (omega arith)) x (omega arith)) (pre i h)
+
+  module _ (n : ℕ) (pre : PreorderTo n) where
+    -- more links than needed change nothing
+    climb-same : (k j v : ℕ) → v < n → v ≤ k → v ≤ j → climb (t .parent) k v ≡ climb (t .parent) j v
+    unfolding climb
+    climb-same zero zero v l h h′ = refl
+    climb-same zero (suc j) zero l h h′ = refl
+    climb-same zero (suc j) (suc v) l h h′ = absurd (omega arith)
+    climb-same (suc k) zero zero l h h′ = refl
+    climb-same (suc k) zero (suc v) l h h′ = absurd (omega arith)
+    climb-same (suc k) (suc j) zero l h h′ = refl
+    climb-same (suc k) (suc j) (suc v) l h h′ =
+        let p = parent-before-to n pre v l in
+        ap (λ r. suc v ∷ r) (climb-same k j (t .parent (suc v)) (omega arith) (omega arith) (omega arith))
+
+    pub route-up-to : (i : ℕ) → suc i < n → route t (suc i) ≡ suc i ∷ route t (t .parent (suc i))
+    unfolding route climb
+    route-up-to i h =
+        let p = parent-before-to n pre i h in
+        ap (λ r. suc i ∷ r) (climb-same i (t .parent (suc i)) (t .parent (suc i)) (omega arith) p (omega arith))
+
+  -- ---- where it holds of every node
+
+  abbrev pub Preorder : Type 0
+  Preorder = (i : ℕ) → has (route t i) (t .parent (suc i)) ≡ true
 
   module _ (pre : Preorder) where
-    -- a parent stands before its node
     pub parent-before : (i : ℕ) → t .parent (suc i) ≤ i
-    parent-before i = parents-before pre (suc i) i (omega arith)
-
-    -- more links than needed change nothing
-    climb-same : (k j v : ℕ) → v ≤ k → v ≤ j → climb (t .parent) k v ≡ climb (t .parent) j v
-    unfolding climb
-    climb-same zero zero v h h′ = refl
-    climb-same zero (suc j) zero h h′ = refl
-    climb-same zero (suc j) (suc v) h h′ = absurd (omega arith)
-    climb-same (suc k) zero zero h h′ = refl
-    climb-same (suc k) zero (suc v) h h′ = absurd (omega arith)
-    climb-same (suc k) (suc j) zero h h′ = refl
-    climb-same (suc k) (suc j) (suc v) h h′ =
-        ap (λ l. suc v ∷ l) (climb-same k j (t .parent (suc v)) (omega (arith, parent-before v)) (omega (arith, parent-before v)))
+    parent-before i = parent-before-to (suc (suc i)) (λ j _. pre j) i (omega arith)
 
     pub route-up : (i : ℕ) → route t (suc i) ≡ suc i ∷ route t (t .parent (suc i))
-    unfolding route climb
-    route-up i = ap (λ l. suc i ∷ l) (climb-same i (t .parent (suc i)) (t .parent (suc i)) (parent-before i) (omega arith))
+    route-up i = route-up-to (suc (suc i)) (λ j _. pre j) i (omega arith)
 
     up-from : (P : ℕ → Type 0) → P 0 → ((i : ℕ) → P (t .parent (suc i)) → P (suc i)) → (k v : ℕ) → v ≤ k → P v
     up-from P z s zero zero h = z
@@ -91,17 +98,8 @@ module _ (t : Tree) where
     unfolding distance sum
     distance-up i = ap (sum (t .linkLength)) (route-up i)
 
-    -- the nodes on a route are not after its first
-    pub route-le : (u v : ℕ) → has (route t v) u ≡ true → u ≤ v
-    route-le u v h = climb-route v h
-      where
-        climb-route : (v : ℕ) → has (route t v) u ≡ true → u ≤ v
-        climb-route =
-            by-route (λ v. has (route t v) u ≡ true → u ≤ v)
-            (rw route-server (has-cases (u ≤ 0) 0 u [] (λ e. omega arith) (λ e. absurd (has-none u e))))
-            (λ i ih. rw (route-up i) (has-cases (u ≤ suc i) (suc i) u (route t (t .parent (suc i))) (λ e. omega arith) (λ e. omega (arith, ih e, parent-before i))))
-
     -- a later node is on no route of an earlier one
     pub route-before : (u v : ℕ) → v < u → has (route t v) u ≡ false
+    unfolding route
     route-before u v h =
-        by-test (λ b. has (route t v) u ≡ b → b ≡ false) (has (route t v) u) (λ e _. absurd (omega (arith, route-le u v e))) (λ _ _. refl) refl
+        by-test (λ b. b ≡ false) (has (route t v) u) (λ e. absurd (omega (arith, climb-le v v u (λ x _. parent-before x) e))) (λ _. refl)
