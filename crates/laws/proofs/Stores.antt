@@ -5,7 +5,7 @@ use Prim.Native.Nat.{ℕ, zero, suc, _+_, _*_, _≤_, _<_}
 use native.Mathlib.Nat.{add-suc, suc-add, zero-add, add-zero, suc-mul, zero-mul}
 use native.Mathlib.Numerals.{add-one}
 use native.Mathlib.Omega.{arith}
-use lib.ListN.{length, take, drop, set, length-take, length-drop, length-map}
+use lib.ListN.{length, length-append, take, drop, set, length-take, length-drop, length-map}
 use lib.Seq.{drop-append-add, sets, sets-eq, drop-set-lt, take-set-le, take-at, drop-at, length-take-le}
 use Rattle.laws.specs.Lists.{range, part}
 use Rattle.laws.proofs.Lists.{length-range, range-snoc, map-append}
@@ -22,7 +22,15 @@ part-of-front zero (suc p) [] = rw add-zero
 part-of-front (suc w) (suc p) [] = rw suc-add
 part-of-front w (suc p) (x ∷ l) = rw suc-add (part-of-front w p l)
 
--- rows of k entries, one after the other: the part at b × k is row b
+-- rows of k entries, one after the other: how many entries they have
+pub length-of-rows : (f : ℕ → List ℕ) (k i n : ℕ) → ((j : ℕ) → i ≤ j → j < i + n → length (f j) ≡ k) → length (flatMap f (range i n)) ≡ n * k
+unfolding flatMap range
+length-of-rows f k i zero h = sym (zero-mul k)
+length-of-rows f k i (suc n) h =
+    rw (length-append, suc-mul)
+    (omega (arith, h i (omega arith) (omega arith), length-of-rows f k (suc i) n (λ j p q. h j (omega arith) (omega arith))))
+
+-- and the part at b × k is row b
 pub part-of-rows : (f : ℕ → List ℕ) (k i n b : ℕ) (rest : List ℕ) → ((j : ℕ) → i ≤ j → j < i + n → length (f j) ≡ k) → b < n
     → part (flatMap f (range i n) ++ rest) (b * k) k ≡ f (i + b)
 unfolding flatMap range

@@ -60,7 +60,7 @@ each-record t d (suc n) i e h =
 pub record Sane (t : Tree) (d : Demand) (i : ℕ) : Type 0 where
   pub parent : parentHolds t i ≡ true
   pub shallow : depth t i ≤ mostDepth
-  pub length : lengthHolds t i ≡ true
+  pub linkLength : lengthHolds t i ≡ true
   pub flow : d .flow i ≤ mostFlow
   pub hit : d .hit i ≤ mostHit
 
@@ -74,19 +74,19 @@ sane-record t d i e =
     record {
       parent = ask-passed 7 i _ (e7 .0);
       shallow = leb-true (depth t i) mostDepth (ask-passed 8 i _ (e8 .0));
-      length = ask-passed 9 i _ (e9 .0);
+      linkLength = ask-passed 9 i _ (e9 .0);
       flow = leb-true (d .flow i) mostFlow (ask-passed 10 i _ (e10 .0));
       hit = leb-true (d .hit i) mostHit (ask-passed 11 i _ (e10 .1));
     }
 
 -- ---- past the last record every field reads as 0
 
-number-past : (w : ℕ) (s : List ℕ) (at : ℕ) → lib.ListN.length s ≤ at → number w s at ≡ 0
+number-past : (w : ℕ) (s : List ℕ) (at : ℕ) → length s ≤ at → number w s at ≡ 0
 unfolding number
 number-past zero s at h = refl
 number-past (suc w) s at h = omega (arith, number-past w s at h, List·getD-eq-default s 0 {n = at + w} (omega arith))
 
-field-past : (s : List ℕ) (f : Field) (i : ℕ) → lib.ListN.length s ≡ recordAt (countOf s) → countOf s ≤ i → fieldOf s f i ≡ 0
+field-past : (s : List ℕ) (f : Field) (i : ℕ) → length s ≡ recordAt (countOf s) → countOf s ≤ i → fieldOf s f i ≡ 0
 unfolding fieldOf
 field-past s f i e h = number-past (f .width) s (recordAt i + f .offset) (omega arith)
 
@@ -103,9 +103,9 @@ pub record Sound (t : Tree) (d : Demand) : Type 0 where
   pub flow : (v : ℕ) → d .flow v ≤ mostFlow
   pub hit : (v : ℕ) → d .hit v ≤ mostHit
 
-module _ (s : List ℕ) (yes′ : fileVerdict s ≡ passed) where
+module _ (s : List ℕ) (ok : fileVerdict s ≡ passed) where
   head : Headed s
-  head = accepted-header s yes′
+  head = accepted-header s ok
 
   sane : (i : ℕ) → i < countOf s → Sane (treeOf s) (demandOf s) i
   sane i h = sane-record (treeOf s) (demandOf s) i (each-record (treeOf s) (demandOf s) (countOf s) i (head .records) h)
@@ -130,12 +130,12 @@ module _ (s : List ℕ) (yes′ : fileVerdict s ≡ passed) where
 
   server-length : treeOf s .linkLength 0 ≡ 0
   unfolding lengthHolds
-  server-length = eqb-true _ _ (sane 0 (head .some) .length)
+  server-length = eqb-true _ _ (sane 0 (head .some) .linkLength)
 
   short-link : (v : ℕ) → v < countOf s → treeOf s .linkLength v ≤ mostLength
   unfolding lengthHolds
   short-link zero h = omega (arith, server-length)
-  short-link (suc v) h = leb-true _ _ (sane (suc v) h .length)
+  short-link (suc v) h = leb-true _ _ (sane (suc v) h .linkLength)
 
   past-depth : (v : ℕ) → countOf s ≤ v → depth (treeOf s) v ≤ mostDepth
   unfolding depth

@@ -5,7 +5,7 @@ use mathlib.Core.List.{List, List·Memᴰ}
 use mathlib.Core.Logic.{_↔_, _⊎_}
 use Prim.Native.Nat.{ℕ, _≤_, _<_}
 use lib.Dec.{eqb}
-use lib.ListN.{length}
+use lib.ListN.{length, take}
 use Rattle.laws.specs.Lists.{has}
 use Rattle.model.specs.File.{Tree, Demand, treeOf, demandOf}
 use Rattle.model.specs.Tree.{route, distance}
@@ -23,7 +23,7 @@ use Rattle.model.proofs.Sets.{all-sets}
 use Rattle.model.proofs.Order.{Decides, rank-irreflexive, rank-transitive, rank-total, ties-said}
 use Rattle.model.proofs.Plans.{RanksFirst, plan-ranks-first, only-plan, plan-least}
 use Rattle.model.proofs.WithNode.{has-with-node}
-use Rattle.model.proofs.GreedyRuns.{GreedyRun, greedy-runs, only-greedy, greedy-is-set, greedy-within}
+use Rattle.model.proofs.GreedyRuns.{GreedyRun, greedy-runs, greedy-prefix, only-greedy, greedy-is-set, greedy-within}
 
 pub record Lawful (t : Tree) (d : Demand) : Type 0 where
   -- a. Distances grow along a route, so the least price over the route is the price at the serving node.
@@ -50,17 +50,19 @@ pub record Lawful (t : Tree) (d : Demand) : Type 0 where
   -- h. The order of ties, said without recursion.
   pub tiesSaid : (k l : List ℕ) → tiesBefore t k l ≡ true
       ↔ ((length k < length l) ⊎ ((length k ≡ length l) × ((v : ℕ) × Decides t k l 1 (t .count) v)))
-  -- i. The greedy rule, said without recursion; only its nodes fit. A set with one node more has that node and its own.
+  -- i. The greedy rule, said without recursion; only its nodes fit, and fewer steps take the first of them. A set with one
+  -- node more has that node and its own.
   pub withNodeHas : (v u : ℕ) (k : List ℕ) → has (withNode v k) u ≡ (eqb v u || has k u)
   pub greedySaid : (b : ℕ) → GreedyRun t d b (greedyNodes t d b)
+  pub greedyPrefix : (b j : ℕ) → j ≤ b → take j (greedyNodes t d b) ≡ greedyNodes t d j
   pub greedyOnly : (b : ℕ) (g : List ℕ) → GreedyRun t d b g → g ≡ greedyNodes t d b
 
 pub lawful : (file : List ℕ) → accepted file ≡ true → Lawful (treeOf file) (demandOf file)
 unfolding accepted
-lawful file yes′ =
+lawful file fits =
     let t = treeOf file in
     let d = demandOf file in
-    let ok = accepted-sound file (is-passed (fileVerdict file) yes′) in
+    let ok = accepted-sound file (is-passed (fileVerdict file) fits) in
     let pre = ok .preorder in
     record {
       distancesGrow = distance-grows t pre;
@@ -79,5 +81,6 @@ lawful file yes′ =
       tiesSaid = ties-said t;
       withNodeHas = has-with-node;
       greedySaid = greedy-runs t d;
+      greedyPrefix = greedy-prefix t d;
       greedyOnly = only-greedy t d;
     }

@@ -12,6 +12,7 @@ pub mod Plans
 pub mod WithNode
 pub mod GreedySteps
 pub mod GreedyRuns
+pub mod Written
 pub mod Reported
 pub mod Decimals
 pub mod Laws

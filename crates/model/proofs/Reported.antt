@@ -6,7 +6,7 @@ use Prim.Native.Nat.{ℕ, zero, suc, _-_, _≤_}
 use native.Mathlib.Nat.{zero-add}
 use native.Mathlib.Omega.{arith}
 use lib.Dec.{eqb}
-use lib.ListN.{length, length-append, length-replicate, replicate}
+use lib.ListN.{length, replicate}
 use borrow.Author.Tests.{ne-eqb}
 use Rattle.laws.specs.Lists.{those}
 use Rattle.laws.proofs.Lists.{entry-of-range}
@@ -22,6 +22,7 @@ use Rattle.model.proofs.Ascending.{ascends-cons}
 use Rattle.model.proofs.GreedyRuns.{greedy-is-set, greedy-within}
 use Rattle.model.proofs.Loads.{links-total}
 use Rattle.model.proofs.Plans.{plan-ranks-first, plan-least, plan-ties}
+use Rattle.model.proofs.Written.{length-plan-row}
 
 -- ---- the plan meets every clause
 
@@ -53,9 +54,6 @@ those-of-row a n m (v ∷ k) h =
     let parts = ascends-cons n a v k .0 h in
     rw (ne-eqb v 0 (λ e. omega arith)) (ap (λ l. v ∷ l) (those-of-row v n m k (parts .2)))
 
-length-row : (k : ℕ) (vs : List ℕ) → length vs ≤ k → length (row k vs) ≡ k
-length-row k vs h = simp (length-append, length-replicate) (omega arith)
-
 module _ (file : List ℕ) where
   abbrev t : Tree
   t = treeOf file
@@ -69,7 +67,7 @@ module _ (file : List ℕ) where
       let k = budgetOf file in
       rw (
         part-of-rows (λ b. row k (plan t d b)) k 0 (suc k) b rest
-            (λ j _ l. length-row k (plan t d j) (omega (arith, plan-ranks-first t d j .within))) (omega arith),
+            (λ j _ l. length-plan-row file j (omega arith)) (omega arith),
         zero-add b,
       )
       (those-of-row 0 (t .count) (k - length (plan t d b)) (plan t d b) (plan-ranks-first t d b .isASet))

@@ -61,7 +61,7 @@ caseHolds (textIs s text) = same (programText s) text
 
 -- the lines `0 0 0` and `1 0 0`
 unfoldable pub twoLines : List ℕ
-twoLines = 48 ∷ 32 ∷ 48 ∷ 32 ∷ 48 ∷ 10 ∷ 49 ∷ 32 ∷ 48 ∷ 32 ∷ 48 ∷ 10 ∷ []
+twoLines = 0x30 ∷ 0x20 ∷ 0x30 ∷ 0x20 ∷ 0x30 ∷ 0x0A ∷ 0x31 ∷ 0x20 ∷ 0x30 ∷ 0x20 ∷ 0x30 ∷ 0x0A ∷ []
 
 unfoldable pub every : List Case → Bool
 every [] = true

@@ -63,36 +63,45 @@ pub record ReportCall (file scratch totals rows greedys taken : List ℕ) (v : V
   pub takenAfter : taken′ ≡ after v (greedyRow file) taken
   pub demandThree : v ≡ passed → DemandThree file totals′ rows′ greedys′
 
--- ---- the text: numbers in decimal, single spaces, a newline
+-- ---- the text: "decimal, single spaces, a newline each"
+
+abbrev pub space : ℕ
+space = 0x20
+
+abbrev pub newline : ℕ
+newline = 0x0A
+
+-- the byte of a digit
+abbrev pub digit : ℕ → ℕ
+digit x = 0x30 + x
 
 -- the digits of x, at most k of them
 unfoldable pub digits : ℕ → ℕ → List ℕ
 digits zero x = []
-digits (suc k) x = elim (ltb x 10) as (λ _. List ℕ) [ true ↦ (48 + x) ∷ [] | false ↦ digits k (x / 10) ++ ((48 + x % 10) ∷ []) ]
+digits (suc k) x = elim (ltb x 10) as (λ _. List ℕ) [ true ↦ digit x ∷ [] | false ↦ digits k (x / 10) ++ (digit (x % 10) ∷ []) ]
 
 -- x has at most x + 1 digits
 unfoldable pub decimal : ℕ → List ℕ
 decimal x = digits (suc x) x
 
--- words with a space between two, and a newline
-unfoldable pub line : List (List ℕ) → List ℕ
-line [] = 10 ∷ []
-line (w ∷ ws) = w ++ flatMap (λ u. 32 ∷ u) ws ++ (10 ∷ [])
+-- a word, and more words with a space before each
+unfoldable pub line : List ℕ → List (List ℕ) → List ℕ
+line w ws = w ++ flatMap (λ u. space ∷ u) ws ++ (newline ∷ [])
 
--- "b, plan total, greedy total, the plan's nodes", for each budget
+-- "one line per budget: b, plan total, greedy total, the plan's nodes"
 unfoldable pub reportText : List ℕ → List ℕ
 reportText file =
     let t = treeOf file in
     let d = demandOf file in
-    flatMap (λ b. line (map decimal (b ∷ planTotal t d b ∷ greedyTotal t d b ∷ plan t d b))) (budgets file)
+    flatMap (λ b. line (decimal b) (map decimal (planTotal t d b ∷ greedyTotal t d b ∷ plan t d b))) (budgets file)
 
 -- the word `refused`
 abbrev pub refusedWord : List ℕ
 refusedWord = 0x72 ∷ 0x65 ∷ 0x66 ∷ 0x75 ∷ 0x73 ∷ 0x65 ∷ 0x64 ∷ []
 
--- "one line of the same form: refused, the number, the record"
+-- "A refusal prints one line of the same form: refused, the number, the record"
 unfoldable pub refusalText : ℕ → ℕ → List ℕ
-refusalText q i = line (refusedWord ∷ decimal q ∷ decimal i ∷ [])
+refusalText q i = line refusedWord (map decimal (q ∷ i ∷ []))
 
 -- ---- the report program
 
