@@ -1,6 +1,7 @@
--- A report that holds the plan's and the greedy rule's answers meets demand 3.
+-- The report call passes just where demand 3 asks it to, and a report with the plan's and the greedy rule's answers meets it.
 use mathlib.Core.Path.{_≡_, refl, sym, ap}
-use mathlib.Core.Bool.{true, not}
+use mathlib.Core.Bool.{true, not, _&&_}
+use mathlib.Core.Logic.{_↔_}
 use mathlib.Core.List.{List, [], _∷_, _++_}
 use Prim.Native.Nat.{ℕ, zero, suc, _-_, _≤_}
 use native.Mathlib.Nat.{zero-add}
@@ -12,11 +13,12 @@ use Rattle.laws.specs.Lists.{those}
 use Rattle.laws.proofs.Lists.{entry-of-range}
 use Rattle.laws.proofs.Stores.{part-of-rows}
 use Rattle.model.specs.File.{Tree, Demand, treeOf, demandOf, budgetOf}
-use Rattle.model.specs.Rules.{passed, fileVerdict, ascends}
+use Rattle.model.specs.Rules.{passed, isPassed, fileVerdict, accepted, ascends, enoughScratch, askScratch}
 use Rattle.model.specs.Plan.{plan, planTotal, row}
 use Rattle.model.specs.Greedy.{greedySet, greedyTotal}
-use Rattle.model.specs.Calls.{planTotals, planRows, greedyTotals}
-use Rattle.model.specs.Report.{HoldsOptimum, setOfRow, DemandThree}
+use Rattle.model.specs.Calls.{planTotals, planRows, planBuffersLong, greedyTotals, greedyBuffersLong}
+use Rattle.model.specs.Report.{HoldsOptimum, setOfRow, DemandThree, reportVerdict}
+use Rattle.model.proofs.Verdicts.{ask-passed, then-passed, is-passed}
 use Rattle.model.proofs.Accepted.{Sound, accepted-sound}
 use Rattle.model.proofs.Ascending.{ascends-cons}
 use Rattle.model.proofs.GreedyRuns.{greedy-is-set, greedy-within}
@@ -80,3 +82,17 @@ module _ (file : List ℕ) where
       let k = budgetOf file in
       rw (row-holds-plan rows b h, entry-of-range (planTotal t d) 0 (suc k) b totals (omega arith), entry-of-range (greedyTotal t d) 0 (suc k) b greedys (omega arith), zero-add b)
       (plan-holds-optimum t d (accepted-sound file e) b)
+
+-- ---- "any accepted file with enough scratch and buffers"
+
+pub report-passes : (file scratch totals rows greedys taken : List ℕ) → reportVerdict file scratch totals rows greedys taken ≡ passed
+    ↔ ((accepted file ≡ true) × (enoughScratch file scratch ≡ true)
+    × ((planBuffersLong file totals rows && greedyBuffersLong file greedys taken) ≡ true))
+unfolding reportVerdict accepted
+report-passes file scratch totals rows greedys taken = (
+  λ e.
+      let a = then-passed (fileVerdict file) _ e in
+      let b = then-passed (askScratch file scratch) _ (a .1) in
+      (ap isPassed (a .0), ask-passed 13 0 _ (b .0), ask-passed 14 0 _ (b .1)),
+  λ h. rw (is-passed (fileVerdict file) (h .0), h .1, h .2),
+)
