@@ -6,13 +6,13 @@ use Prim.Native.Nat.{ℕ, zero, suc, _+_, _≤_, _<_}
 use native.Mathlib.Decide.{decLt}
 use native.Mathlib.Omega.{arith}
 use lib.Dec.{leb, eqb}
-use lib.ListN.{length, take, List·getD-eq-default}
+use lib.ListN.{length, List·getD-eq-default}
 use borrow.Author.Tests.{leb-true, eqb-true}
 use Rattle.laws.specs.Lists.{same}
 use Rattle.laws.proofs.Bools.{both}
-use Rattle.model.specs.File.{Tree, Demand, Field, number, fieldOf, treeOf, demandOf, mark, version, headerLength, versionOf, countOf, budgetOf, recordAt, mostNodes, mostBudget, mostDepth, mostLength, mostFlow, mostHit, parentField, lengthField, flowField, hitField}
+use Rattle.model.specs.File.{Tree, Demand, Field, number, fieldOf, treeOf, demandOf, version, headerLength, versionOf, countOf, budgetOf, recordAt, mostNodes, mostBudget, mostDepth, mostLength, mostFlow, mostHit, parentField, lengthField, flowField, hitField}
 use Rattle.model.specs.Tree.{depth}
-use Rattle.model.specs.Rules.{passed, ask, parentHolds, lengthHolds, recordVerdict, recordsVerdict, fileVerdict}
+use Rattle.model.specs.Rules.{passed, ask, parentHolds, lengthHolds, recordVerdict, recordsVerdict, marked, fileVerdict}
 use Rattle.model.proofs.Verdicts.{ask-passed, then-passed}
 use Rattle.model.proofs.Routes.{Preorder, route-server, route-ends, route-up}
 
@@ -29,7 +29,7 @@ pub accepted-header : (s : List ℕ) → fileVerdict s ≡ passed → Headed s
 unfolding fileVerdict
 accepted-header s e =
     let e1 = then-passed (ask 1 0 (leb headerLength (length s))) _ e in
-    let e2 = then-passed (ask 2 0 (same (take (length mark) s) mark)) _ (e1 .1) in
+    let e2 = then-passed (ask 2 0 (marked s)) _ (e1 .1) in
     let e3 = then-passed (ask 3 0 (eqb (versionOf s) version)) _ (e2 .1) in
     let e4 = then-passed (ask 4 0 (leb 1 (countOf s) && leb (countOf s) mostNodes)) _ (e3 .1) in
     let e5 = then-passed (ask 5 0 (leb (budgetOf s) mostBudget)) _ (e4 .1) in

@@ -57,12 +57,16 @@ recordsVerdict t d (suc i) = recordsVerdict t d i then recordVerdict t d i
 
 -- ---- rules 1 to 11
 
--- 1: "Are there at least 9 bytes?" 2: "Do they begin with the mark?" 3: "Is the version 1?" 4: "Is n from 1 to 1,024?"
--- 5: "Is k from 0 to 32?" 6: "Is the file exactly 9 + 10 × n bytes?" Then the records.
+-- 2: "Do they begin with the mark?"
+unfoldable pub marked : List ℕ → Bool
+marked s = same (take (length mark) s) mark
+
+-- 1: "Are there at least 9 bytes?" 3: "Is the version 1?" 4: "Is n from 1 to 1,024?" 5: "Is k from 0 to 32?"
+-- 6: "Is the file exactly 9 + 10 × n bytes?" Then the records.
 unfoldable pub fileVerdict : List ℕ → Verdict
 fileVerdict s =
     ask 1 0 (leb headerLength (length s))
-    then ask 2 0 (same (take (length mark) s) mark)
+    then ask 2 0 (marked s)
     then ask 3 0 (eqb (versionOf s) version)
     then ask 4 0 (leb 1 (countOf s) && leb (countOf s) mostNodes)
     then ask 5 0 (leb (budgetOf s) mostBudget)
