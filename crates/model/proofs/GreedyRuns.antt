@@ -1,14 +1,15 @@
 -- Laws of a run of the greedy rule: the nodes that it takes, said without recursion, and the set that it then has.
-use mathlib.Core.Path.{_≡_, refl, sym, ap}
-use mathlib.Core.Bool.{true}
+use mathlib.Core.Path.{_≡_, refl, sym, ap, _∙_}
+use mathlib.Core.Bool.{true, or-false}
 use mathlib.Core.List.{List, [], _∷_}
 use Prim.Native.Nat.{ℕ, zero, suc, _≤_, _<_}
 use native.Mathlib.Omega.{arith}
 use lib.ListN.{length, take, getD}
+use Rattle.laws.specs.Lists.{has}
 use Rattle.model.specs.File.{Tree, Demand}
 use Rattle.model.specs.Rules.{ascends, isSet}
 use Rattle.model.specs.Greedy.{withNode, withNodes, stops, takes, takenFrom, greedyNodes, greedySet}
-use Rattle.model.proofs.WithNode.{ascends-with-node, length-with-nodes}
+use Rattle.model.proofs.WithNode.{ascends-with-node, length-with-nodes, has-with-nodes}
 use Rattle.model.proofs.GreedySteps.{Takes, Rests, step-cases, only-takes, takes-not-rests}
 
 -- g are the nodes that the greedy rule takes from K in at most b steps, in the order taken
@@ -99,6 +100,11 @@ module _ (t : Tree) (d : Demand) where
 
   pub greedy-prefix : (b j : ℕ) → j ≤ b → take j (greedyNodes t d b) ≡ greedyNodes t d j
   greedy-prefix = taken-prefix []
+
+  -- the set has just the nodes taken
+  pub greedy-set-has : (b u : ℕ) → has (greedySet t d b) u ≡ has (greedyNodes t d b) u
+  unfolding has
+  greedy-set-has b u = has-with-nodes [] (greedyNodes t d b) u ∙ or-false _
 
   pub greedy-is-set : (b : ℕ) → isSet t (greedySet t d b) ≡ true
   unfolding ascends

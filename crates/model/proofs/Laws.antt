@@ -1,5 +1,5 @@
 -- The nine laws of the definitions, each for every accepted file and every set, on one page.
-use mathlib.Core.Path.{_≡_}
+use mathlib.Core.Path.{_≡_, refl}
 use mathlib.Core.Bool.{true, false, _||_}
 use mathlib.Core.List.{List, List·Memᴰ}
 use mathlib.Core.Logic.{_↔_, _⊎_}
@@ -23,7 +23,7 @@ use Rattle.model.proofs.Sets.{all-sets}
 use Rattle.model.proofs.Order.{Decides, rank-irreflexive, rank-transitive, rank-total, ties-said}
 use Rattle.model.proofs.Plans.{RanksFirst, plan-ranks-first, only-plan, plan-least}
 use Rattle.model.proofs.WithNode.{has-with-node}
-use Rattle.model.proofs.GreedyRuns.{GreedyRun, greedy-runs, greedy-prefix, only-greedy, greedy-is-set, greedy-within}
+use Rattle.model.proofs.GreedyRuns.{GreedyRun, greedy-runs, greedy-prefix, only-greedy, greedy-is-set, greedy-within, greedy-set-has}
 
 pub record Lawful (t : Tree) (d : Demand) : Type 0 where
   -- a. Distances grow along a route, so the least price over the route is the price at the serving node.
@@ -43,7 +43,10 @@ pub record Lawful (t : Tree) (d : Demand) : Type 0 where
   pub planOnly : (b : ℕ) (k : List ℕ) → RanksFirst t d b k → k ≡ plan t d b
   -- f. Every total is below 2^62.
   pub totalsSmall : (k : List ℕ) → total t d k < totalLimit
-  -- g. Greedy's total after at most b steps is the total of a set of at most b nodes, so it is never below the plan's.
+  -- g. Greedy's total after at most b steps is the total of a set of at most b nodes, those taken, so it is never below the
+  -- plan's.
+  pub greedyTotalIs : (b : ℕ) → greedyTotal t d b ≡ total t d (greedySet t d b)
+  pub greedySetHas : (b u : ℕ) → has (greedySet t d b) u ≡ has (greedyNodes t d b) u
   pub greedyIsSet : (b : ℕ) → isSet t (greedySet t d b) ≡ true
   pub greedyWithin : (b : ℕ) → length (greedySet t d b) ≤ b
   pub greedyNoLess : (b : ℕ) → planTotal t d b ≤ greedyTotal t d b
@@ -75,6 +78,8 @@ lawful file fits =
       planFirst = plan-ranks-first t d;
       planOnly = only-plan t d;
       totalsSmall = total-bound t d ok;
+      greedyTotalIs = λ b. refl;
+      greedySetHas = greedy-set-has t d;
       greedyIsSet = greedy-is-set t d;
       greedyWithin = greedy-within t d;
       greedyNoLess = λ b. plan-least t d b (greedySet t d b) (greedy-is-set t d b) (greedy-within t d b);

@@ -44,3 +44,9 @@ pub length-with-nodes : (k vs : List ℕ) → length (withNodes k vs) ≡ length
 unfolding withNodes
 length-with-nodes k [] = omega arith
 length-with-nodes k (v ∷ vs) = omega (arith, length-with-nodes (withNode v k) vs, length-with-node v k)
+
+pub has-with-nodes : (k vs : List ℕ) (u : ℕ) → has (withNodes k vs) u ≡ (has vs u || has k u)
+unfolding withNodes has
+has-with-nodes k [] u = refl
+has-with-nodes k (v ∷ vs) u =
+    rw (has-with-nodes (withNode v k) vs u, has-with-node v u k, ← or-assoc (has vs u), or-comm (has vs u) (eqb v u))
