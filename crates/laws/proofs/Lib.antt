@@ -1,4 +1,5 @@
 pub mod Numbers
+pub mod Statements
 pub mod Bools
 pub mod Lists
 pub mod Leads

@@ -8,10 +8,10 @@ use native.Mathlib.Nat.{add-zero}
 use native.Mathlib.Decide.{ℕ-discrete}
 use native.Mathlib.Omega.{arith}
 use lib.Dec.{eqb}
-use lib.ListN.{length, getD}
+use lib.ListN.{length, getD, length-map, replicate}
 use borrow.Author.Tests.{eq-eqb, ne-eqb, eqb-true}
-use Rattle.laws.specs.Lists.{range, has, those, same}
-use Rattle.laws.proofs.Bools.{by-test, not-both, both}
+use Rattle.laws.specs.Lists.{range, has, those}
+use Rattle.laws.proofs.Bools.{by-test, not-both}
 
 -- ---- membership
 
@@ -75,6 +75,9 @@ pub map-append : {A B : Type 0} (f : A → B) (xs ys : List A) → map f (xs ++ 
 map-append f [] ys = refl
 map-append f (x ∷ xs) ys = ap (λ l. f x ∷ l) (map-append f xs ys)
 
+pub length-of-range : (f : ℕ → ℕ) (i n : ℕ) → length (map f (range i n)) ≡ n
+length-of-range f i n = length-map (range i n) f ∙ length-range i n
+
 -- the entry of f over i, i + 1, .. in front of a rest
 pub entry-of-range : (f : ℕ → ℕ) (i n b : ℕ) (rest : List ℕ) → b < n → getD (map f (range i n) ++ rest) b 0 ≡ f (i + b)
 unfolding range
@@ -97,6 +100,11 @@ has-those p v (x ∷ xs) =
     rw (and-or-distrib-left, test-where-same p x v, ← has-those p v xs)
     (by-test (λ b. has (cond b (x ∷ those p xs) (those p xs)) v ≡ (b && eqb x v || has (those p xs) v)) (p x) (λ _. refl) (λ _. refl))
 
+pub none-of-these : (p : ℕ → Bool) (x m : ℕ) → p x ≡ false → those p (replicate m x) ≡ []
+unfolding those
+none-of-these p x zero h = refl
+none-of-these p x (suc m) h = rw h (none-of-these p x m h)
+
 -- ---- membership as a place in the list
 
 module _ {A B : Type 0} (f : A → B) where
@@ -111,16 +119,3 @@ module _ {A B : Type 0} (f : A → B) where
         | inl e ↦ (x, List·Memᴰ·head refl, e)
         | inr n ↦ let r = in-map y l n in (r .0, List·Memᴰ·tail (r .1), r .2)
       ]
-
--- ---- the test of two lists
-
-pub same-true : (xs ys : List ℕ) → same xs ys ≡ true → xs ≡ ys
-unfolding same
-same-true [] [] e = refl
-same-true [] (y ∷ ys) e = absurd (false≢true e)
-same-true (x ∷ xs) [] e = absurd (false≢true e)
-same-true (x ∷ xs) (y ∷ ys) e =
-    let b = both (eqb x y) (same xs ys) e in
-    let h = eqb-true x y (b .0) in
-    let t = same-true xs ys (b .1) in
-    λ k. h k ∷ t k

@@ -5,17 +5,17 @@ use Prim.Native.Nat.{ℕ, zero, suc, _+_, _*_, _≤_, _<_}
 use native.Mathlib.Nat.{add-suc, suc-add, zero-add, add-zero, suc-mul, zero-mul}
 use native.Mathlib.Numerals.{add-one}
 use native.Mathlib.Omega.{arith}
-use lib.ListN.{length, length-append, take, drop, set, length-take, length-drop, length-map}
+use lib.ListN.{length, length-append, take, drop, set, length-take, length-drop}
 use lib.Seq.{drop-append-add, sets, sets-eq, drop-set-lt, take-set-le, take-at, drop-at, length-take-le}
 use Rattle.laws.specs.Lists.{range, part}
-use Rattle.laws.proofs.Lists.{length-range, range-snoc, map-append}
+use Rattle.laws.proofs.Lists.{length-of-range, range-snoc, map-append}
 
 -- ---- parts
 
 pub length-part : (l : List ℕ) (p w : ℕ) → p + w ≤ length l → length (part l p w) ≡ w
 length-part l p w h = simp (length-take, length-drop) (omega arith)
 
--- a part that begins at 0 or later is a part of the front
+-- a part is the end of a front of the list
 part-of-front : (w p : ℕ) (l : List ℕ) → take w (drop p l) ≡ drop p (take (p + w) l)
 part-of-front w zero l = ap (λ (k : ℕ). take k l) (sym (zero-add w))
 part-of-front zero (suc p) [] = rw add-zero
@@ -91,7 +91,6 @@ loop-begins l i f = refl
 pub loop-turns : (l : List ℕ) (i : ℕ) (f : ℕ → ℕ) (j : ℕ) {s : List ℕ} {p x : ℕ} → s ≡ sets l i (map f (range 0 j)) → p ≡ i + j → x ≡ f j
     → set s p x ≡ sets l i (map f (range 0 (j + 1)))
 loop-turns l i f j hs hp hx =
-    let n : length (map f (range 0 j)) ≡ j = length-map (range 0 j) f ∙ length-range 0 j in
     let one : map f (range 0 (suc j)) ≡ map f (range 0 j) ++ (f j ∷ []) =
     ap (map f) (range-snoc 0 j) ∙ map-append f (range 0 j) _ ∙ ap (λ k. map f (range 0 j) ++ (f k ∷ [])) (zero-add j) in
-    rw (add-one, one, sets-append l i (map f (range 0 j)) (f j ∷ []), n, hs, hp, hx)
+    rw (add-one, one, sets-append l i (map f (range 0 j)) (f j ∷ []), length-of-range f 0 j, hs, hp, hx)

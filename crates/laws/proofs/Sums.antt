@@ -7,7 +7,7 @@ use native.Mathlib.Decide.{ℕ-discrete}
 use native.Mathlib.Omega.{arith}
 use Rattle.laws.specs.Lists.{range, sum, has, those}
 use Rattle.laws.proofs.Bools.{by-test}
-use Rattle.laws.proofs.Lists.{has-head, has-tail}
+use Rattle.laws.proofs.Lists.{has-head, has-tail, range-bounds}
 
 pub sum-mul : (f : ℕ → ℕ) (k : ℕ) (l : List ℕ) → sum f l * k ≡ sum (λ c. f c * k) l
 unfolding sum
@@ -48,12 +48,6 @@ unfolding sum range
 sum-le f most i zero h = omega arith
 sum-le f most i (suc n) h = omega (arith, h i, sum-le f most (suc i) n h)
 
--- two functions that agree over a range
-pub sum-range-same : (f g : ℕ → ℕ) (i n : ℕ) → ((v : ℕ) → i ≤ v → v < i + n → f v ≡ g v) → sum f (range i n) ≡ sum g (range i n)
-unfolding sum range
-sum-range-same f g i zero h = refl
-sum-range-same f g i (suc n) h = omega (arith, h i (omega arith) (omega arith), sum-range-same f g (suc i) n (λ v k l. h v (omega arith) (omega arith)))
-
 -- two functions that differ by x at k alone
 pub sum-point : (f g : ℕ → ℕ) (k x i n : ℕ) → f k ≡ x + g k → ((v : ℕ) → (v ≡ k → ⊥) → f v ≡ g v) → i ≤ k → k < i + n
     → sum f (range i n) ≡ x + sum g (range i n)
@@ -61,6 +55,6 @@ unfolding sum range
 sum-point f g k x i zero e h a b = absurd (omega arith)
 sum-point f g k x i (suc n) e h a b =
     elim (ℕ-discrete k i) [
-      | yes p ↦ omega (arith, rw p at e, sum-range-same f g (suc i) n (λ v l l′. h v (omega arith)))
+      | yes p ↦ omega (arith, rw p at e, sum-same f g (range (suc i) n) (λ v m. let in-it = range-bounds (suc i) n v m in h v (omega arith)))
       | no p ↦ omega (arith, h i (λ q. p (sym q)), sum-point f g k x (suc i) n e h (omega arith) (omega arith))
     ]

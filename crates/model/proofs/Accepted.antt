@@ -18,14 +18,15 @@ use Rattle.model.proofs.Routes.{Preorder, route-server, route-ends, rou
 
 -- ---- the header
 
-pub record Headed (s : List ℕ) : Type 0 where
+-- what rules 4 to 6 say of the header
+pub record HeaderHolds (s : List ℕ) : Type 0 where
   pub some : 1 ≤ countOf s
   pub few : countOf s ≤ mostNodes
   pub budget : budgetOf s ≤ mostBudget
   pub exact : length s ≡ recordAt (countOf s)
   pub records : recordsVerdict (treeOf s) (demandOf s) (countOf s) ≡ passed
 
-pub accepted-header : (s : List ℕ) → fileVerdict s ≡ passed → Headed s
+pub accepted-header : (s : List ℕ) → fileVerdict s ≡ passed → HeaderHolds s
 unfolding fileVerdict
 accepted-header s e =
     let e1 = then-passed (ask 1 0 (leb headerLength (length s))) _ e in
@@ -56,17 +57,17 @@ each-record t d (suc n) i e h =
       | no l ↦ let same : i ≡ n = omega arith in ap (recordVerdict t d) same ∙ p .1
     ]
 
--- rules 7 to 11 at node i
-pub record Sane (t : Tree) (d : Demand) (i : ℕ) : Type 0 where
+-- what rules 7 to 11 say of record i
+pub record RecordHolds (t : Tree) (d : Demand) (i : ℕ) : Type 0 where
   pub parent : parentHolds t i ≡ true
   pub shallow : depth t i ≤ mostDepth
   pub linkLength : lengthHolds t i ≡ true
   pub flow : d .flow i ≤ mostFlow
   pub hit : d .hit i ≤ mostHit
 
-pub sane-record : (t : Tree) (d : Demand) (i : ℕ) → recordVerdict t d i ≡ passed → Sane t d i
+pub record-holds : (t : Tree) (d : Demand) (i : ℕ) → recordVerdict t d i ≡ passed → RecordHolds t d i
 unfolding recordVerdict
-sane-record t d i e =
+record-holds t d i e =
     let e7 = then-passed (ask 7 i (parentHolds t i)) _ e in
     let e8 = then-passed (ask 8 i (leb (depth t i) mostDepth)) _ (e7 .1) in
     let e9 = then-passed (ask 9 i (lengthHolds t i)) _ (e8 .1) in
@@ -104,11 +105,11 @@ pub record Sound (t : Tree) (d : Demand) : Type 0 where
   pub hit : (v : ℕ) → d .hit v ≤ mostHit
 
 module _ (s : List ℕ) (ok : fileVerdict s ≡ passed) where
-  head : Headed s
+  head : HeaderHolds s
   head = accepted-header s ok
 
-  sane : (i : ℕ) → i < countOf s → Sane (treeOf s) (demandOf s) i
-  sane i h = sane-record (treeOf s) (demandOf s) i (each-record (treeOf s) (demandOf s) (countOf s) i (head .records) h)
+  in-file : (i : ℕ) → i < countOf s → RecordHolds (treeOf s) (demandOf s) i
+  in-file i h = record-holds (treeOf s) (demandOf s) i (each-record (treeOf s) (demandOf s) (countOf s) i (head .records) h)
 
   past : (f : Field) (i : ℕ) → countOf s ≤ i → fieldOf s f i ≡ 0
   past f i h = field-past s f i (head .exact) h
@@ -117,7 +118,7 @@ module _ (s : List ℕ) (ok : fileVerdict s ≡ passed) where
   unfolding parentHolds
   preorder i =
       elim (decLt (suc i) (countOf s)) [
-        | yes h ↦ sane (suc i) h .parent
+        | yes h ↦ in-file (suc i) h .parent
         | no h ↦ rw (past parentField (suc i) (omega arith)) (route-ends (treeOf s) i)
       ]
 
@@ -130,12 +131,12 @@ module _ (s : List ℕ) (ok : fileVerdict s ≡ passed) where
 
   server-length : treeOf s .linkLength 0 ≡ 0
   unfolding lengthHolds
-  server-length = eqb-true _ _ (sane 0 (head .some) .linkLength)
+  server-length = eqb-true _ _ (in-file 0 (head .some) .linkLength)
 
   short-link : (v : ℕ) → v < countOf s → treeOf s .linkLength v ≤ mostLength
   unfolding lengthHolds
   short-link zero h = omega (arith, server-length)
-  short-link (suc v) h = leb-true _ _ (sane (suc v) h .linkLength)
+  short-link (suc v) h = leb-true _ _ (in-file (suc v) h .linkLength)
 
   past-depth : (v : ℕ) → countOf s ≤ v → depth (treeOf s) v ≤ mostDepth
   unfolding depth
@@ -148,8 +149,8 @@ module _ (s : List ℕ) (ok : fileVerdict s ≡ passed) where
     few = head .few;
     preorder = preorder;
     server = server-length;
-    shallow = everywhere (λ v. depth (treeOf s) v ≤ mostDepth) (λ v h. sane v h .shallow) past-depth;
+    shallow = everywhere (λ v. depth (treeOf s) v ≤ mostDepth) (λ v h. in-file v h .shallow) past-depth;
     short = at-most lengthField mostLength short-link;
-    flow = at-most flowField mostFlow (λ v h. sane v h .flow);
-    hit = at-most hitField mostHit (λ v h. sane v h .hit);
+    flow = at-most flowField mostFlow (λ v h. in-file v h .flow);
+    hit = at-most hitField mostHit (λ v h. in-file v h .hit);
   }

@@ -8,7 +8,9 @@ use lib.ListN.{length, take, getD}
 use Rattle.laws.specs.Lists.{has}
 use Rattle.model.specs.File.{Tree, Demand}
 use Rattle.model.specs.Rules.{ascends, isSet}
-use Rattle.model.specs.Greedy.{withNode, withNodes, stops, takes, takenFrom, greedyNodes, greedySet}
+use Rattle.model.specs.Plan.{planTotal}
+use Rattle.model.specs.Greedy.{withNode, withNodes, stops, takes, takenFrom, greedyNodes, greedySet, greedyTotal}
+use Rattle.model.proofs.Plans.{plan-least}
 use Rattle.model.proofs.WithNode.{ascends-with-node, length-with-nodes, has-with-nodes}
 use Rattle.model.proofs.GreedySteps.{Takes, Rests, step-cases, only-takes, takes-not-rests}
 
@@ -112,3 +114,6 @@ module _ (t : Tree) (d : Demand) where
 
   pub greedy-within : (b : ℕ) → length (greedySet t d b) ≤ b
   greedy-within b = omega (arith, length-with-nodes [] (greedyNodes t d b), greedy-runs b .within)
+
+  pub greedy-no-less : (b : ℕ) → planTotal t d b ≤ greedyTotal t d b
+  greedy-no-less b = plan-least t d b (greedySet t d b) (greedy-is-set b) (greedy-within b)

@@ -21,9 +21,9 @@ use Rattle.model.proofs.Loads.{links-total}
 use Rattle.model.proofs.Bounds.{total-bound}
 use Rattle.model.proofs.Sets.{all-sets}
 use Rattle.model.proofs.Order.{Decides, rank-irreflexive, rank-transitive, rank-total, ties-said}
-use Rattle.model.proofs.Plans.{RanksFirst, plan-ranks-first, only-plan, plan-least}
+use Rattle.model.proofs.Plans.{RanksFirst, plan-ranks-first, only-plan}
 use Rattle.model.proofs.WithNode.{has-with-node}
-use Rattle.model.proofs.GreedyRuns.{GreedyRun, greedy-runs, greedy-prefix, only-greedy, greedy-is-set, greedy-within, greedy-set-has}
+use Rattle.model.proofs.GreedyRuns.{GreedyRun, greedy-runs, greedy-prefix, only-greedy, greedy-is-set, greedy-within, greedy-no-less, greedy-set-has}
 
 pub record Lawful (t : Tree) (d : Demand) : Type 0 where
   -- a. Distances grow along a route, so the least price over the route is the price at the serving node.
@@ -82,7 +82,7 @@ lawful file fits =
       greedySetHas = greedy-set-has t d;
       greedyIsSet = greedy-is-set t d;
       greedyWithin = greedy-within t d;
-      greedyNoLess = λ b. plan-least t d b (greedySet t d b) (greedy-is-set t d b) (greedy-within t d b);
+      greedyNoLess = greedy-no-less t d;
       tiesSaid = ties-said t;
       withNodeHas = has-with-node;
       greedySaid = greedy-runs t d;

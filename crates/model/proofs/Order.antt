@@ -10,6 +10,7 @@ use lib.Dec.{ltb, eqb}
 use lib.ListN.{length}
 use borrow.Author.Tests.{ltb-true, lt-ltb, le-ltb, eqb-true, eq-eqb}
 use Rattle.laws.specs.Lists.{range, has, howMany}
+use Rattle.laws.proofs.Statements.{rest-said}
 use Rattle.laws.proofs.Bools.{not-both, both, either, one-passes, bit, bit-same, bit-less}
 use Rattle.laws.proofs.Lists.{has-cases, has-none, in-range}
 use Rattle.model.specs.File.{Tree, Demand}
@@ -93,10 +94,6 @@ module _ (t : Tree) where
 -- how many nodes of K have v on their route
 abbrev pub under : Tree → List ℕ → ℕ → ℕ
 under t k v = howMany (λ u. has (route t u) v) k
-
--- the rest said in other words
-rest-said : {A B C D : Type 0} → C ↔ D → (A ⊎ (B × C)) ↔ (A ⊎ (B × D))
-rest-said e = (⊎-map (λ a. a) (λ p. (p .0, e .0 (p .1))), ⊎-map (λ a. a) (λ p. (p .0, e .1 (p .1))))
 
 module _ (t : Tree) (k l : List ℕ) where
   -- K and L have equally many nodes at or below u, and both or neither have u

@@ -76,7 +76,7 @@ module _ (t : Tree) (d : Demand) (b : ℕ) where
   plan-fits =
       first-holds t d (λ l. (isSet t l ≡ true) × (length l ≤ b)) [] (allSets t b) (refl, omega arith) (λ l. all-sets t b l .0)
 
-  -- it is each other one, or ranks before it
+  -- and is each set of at most b nodes, or ranks before it
   plan-no-later : (l : List ℕ) → isSet t l ≡ true → length l ≤ b → NoLater t d (plan t d b) l
   unfolding plan ascends
   plan-no-later l g h = first-no-later t d [] (allSets t b) refl (λ m i. all-sets t b m .0 i .0) l (inr (all-sets t b l .1 (g, h)))

@@ -3,25 +3,25 @@ use mathlib.Core.Path.{_≡_, refl, sym, ap}
 use mathlib.Core.Bool.{true, not, _&&_}
 use mathlib.Core.Logic.{_↔_}
 use mathlib.Core.List.{List, [], _∷_, _++_}
-use Prim.Native.Nat.{ℕ, zero, suc, _-_, _≤_}
+use Prim.Native.Nat.{ℕ, suc, _-_, _≤_}
 use native.Mathlib.Nat.{zero-add}
 use native.Mathlib.Omega.{arith}
 use lib.Dec.{eqb}
 use lib.ListN.{length, replicate}
 use borrow.Author.Tests.{ne-eqb}
 use Rattle.laws.specs.Lists.{those}
-use Rattle.laws.proofs.Lists.{entry-of-range}
+use Rattle.laws.proofs.Lists.{entry-of-range, none-of-these}
 use Rattle.laws.proofs.Stores.{part-of-rows}
 use Rattle.model.specs.File.{Tree, Demand, treeOf, demandOf, budgetOf}
 use Rattle.model.specs.Rules.{passed, isPassed, fileVerdict, accepted, ascends, enoughScratch, askScratch}
 use Rattle.model.specs.Plan.{plan, planTotal, row}
-use Rattle.model.specs.Greedy.{greedySet, greedyTotal}
-use Rattle.model.specs.Calls.{planTotals, planRows, planBuffersLong, greedyTotals, greedyBuffersLong}
+use Rattle.model.specs.Greedy.{greedyTotal}
+use Rattle.model.specs.Calls.{after, planTotals, planRows, planBuffersLong, greedyTotals, greedyBuffersLong}
 use Rattle.model.specs.Report.{HoldsOptimum, setOfRow, DemandThree, reportVerdict}
 use Rattle.model.proofs.Verdicts.{ask-passed, then-passed, is-passed}
 use Rattle.model.proofs.Accepted.{Sound, accepted-sound}
 use Rattle.model.proofs.Ascending.{ascends-cons}
-use Rattle.model.proofs.GreedyRuns.{greedy-is-set, greedy-within}
+use Rattle.model.proofs.GreedyRuns.{greedy-no-less}
 use Rattle.model.proofs.Loads.{links-total}
 use Rattle.model.proofs.Plans.{plan-ranks-first, plan-least, plan-ties}
 use Rattle.model.proofs.Written.{length-plan-row}
@@ -39,19 +39,14 @@ plan-holds-optimum t d ok b =
       noRivalLess = plan-least t d b;
       rivalsLater = plan-ties t d b;
       greedyExact = refl;
-      greedyNoLess = plan-least t d b (greedySet t d b) (greedy-is-set t d b) (greedy-within t d b);
+      greedyNoLess = greedy-no-less t d b;
     }
 
 -- ---- a set is read back from its row
 
-those-of-zeros : (m : ℕ) → those (λ v. not (eqb v 0)) (replicate m 0) ≡ []
-unfolding those
-those-of-zeros zero = refl
-those-of-zeros (suc m) = those-of-zeros m
-
 those-of-row : (a n m : ℕ) (k : List ℕ) → ascends a n k ≡ true → those (λ v. not (eqb v 0)) (k ++ replicate m 0) ≡ k
 unfolding those
-those-of-row a n m [] h = those-of-zeros m
+those-of-row a n m [] h = none-of-these (λ v. not (eqb v 0)) 0 m refl
 those-of-row a n m (v ∷ k) h =
     let parts = ascends-cons n a v k .0 h in
     rw (ne-eqb v 0 (λ e. omega arith)) (ap (λ l. v ∷ l) (those-of-row v n m k (parts .2)))
@@ -74,13 +69,13 @@ module _ (file : List ℕ) where
       )
       (those-of-row 0 (t .count) (k - length (plan t d b)) (plan t d b) (plan-ranks-first t d b .isASet))
 
-  -- whatever stands in the buffers behind the answers
+  -- whatever the buffers held
   pub report-meets-demand : fileVerdict file ≡ passed → (totals rows greedys : List ℕ)
-      → DemandThree file (planTotals file ++ totals) (planRows file ++ rows) (greedyTotals file ++ greedys)
+      → DemandThree file (after passed (planTotals file) totals) (after passed (planRows file) rows) (after passed (greedyTotals file) greedys)
   unfolding planTotals greedyTotals
   report-meets-demand e totals rows greedys b h =
       let k = budgetOf file in
-      rw (row-holds-plan rows b h, entry-of-range (planTotal t d) 0 (suc k) b totals (omega arith), entry-of-range (greedyTotal t d) 0 (suc k) b greedys (omega arith), zero-add b)
+      rw (row-holds-plan _ b h, entry-of-range (planTotal t d) 0 (suc k) b _ (omega arith), entry-of-range (greedyTotal t d) 0 (suc k) b _ (omega arith), zero-add b)
       (plan-holds-optimum t d (accepted-sound file e) b)
 
 -- ---- "any accepted file with enough scratch and buffers"
