@@ -1,9 +1,13 @@
 -- Laws of tests: what a test's value says, what two tests say together, and a test as a number.
-use mathlib.Core.Path.{_≡_, refl}
-use mathlib.Core.Bool.{Bool, true, false, cond, _&&_, _||_, true≢false, false≢true}
+use mathlib.Core.Path.{_≡_, refl, sym, _∙_}
+use mathlib.Core.Bool.{Bool, true, false, cond, not, Bool·beq, _&&_, _||_, true≢false, false≢true}
 use mathlib.Core.Logic.{_⊎_, inl, inr}
-use Prim.Native.Nat.{ℕ, _<_}
+use Prim.Native.Nat.{ℕ, _≤_, _<_}
 use native.Mathlib.Omega.{arith}
+use lib.Dec.{leb}
+use mir.Val.{boolByte}
+use borrow.Author.Tests.{not-true, not-false, le-leb, lt-leb}
+use Rattle.laws.specs.Lists.{bit}
 
 -- a fact of a test by its two values
 pub by-test {ℓ} : (P : Bool → Type ℓ) (b : Bool) → (b ≡ true → P true) → (b ≡ false → P false) → P b
@@ -12,6 +16,40 @@ by-test P false f g = g refl
 
 pub not-both : {b : Bool} → b ≡ true → b ≡ false → ⊥
 not-both p q = let z : true ≡ false = cc in absurd (true≢false z)
+
+-- a test `!r` in code, said of what r is
+pub held : {r x : Bool} → r ≡ x → not r ≡ false → x ≡ true
+held {r} e h = sym e ∙ not-false r h
+
+pub failed : {r x : Bool} → r ≡ x → not r ≡ true → x ≡ false
+failed {r} e h = sym e ∙ not-true r h
+
+-- a test `a != b` in code
+pub differ : (a b : Bool) → not (Bool·beq a b) ≡ true → a ≡ b → ⊥
+differ true true d e = absurd (false≢true d)
+differ true false d e = absurd (true≢false e)
+differ false true d e = absurd (false≢true e)
+differ false false d e = absurd (false≢true d)
+
+pub alike : (a b : Bool) → not (Bool·beq a b) ≡ false → a ≡ b
+alike true true s = refl
+alike true false s = absurd (true≢false s)
+alike false true s = absurd (true≢false s)
+alike false false s = refl
+
+-- a test `r <= m` in code, said of what r and m are
+pub within-held : {r x m : ℕ} → r ≡ x → r ≤ m → leb x m ≡ true
+within-held {r} {x} {m} e h = le-leb x m (omega arith)
+
+pub within-failed : {r x m : ℕ} → r ≡ x → m < r → leb x m ≡ false
+within-failed {r} {x} {m} e h = lt-leb x m (omega arith)
+
+-- a test `m <= r`
+pub below-held : {r x m : ℕ} → r ≡ x → m ≤ r → leb m x ≡ true
+below-held {r} {x} {m} e h = le-leb m x (omega arith)
+
+pub below-failed : {r x m : ℕ} → r ≡ x → r < m → leb m x ≡ false
+below-failed {r} {x} {m} e h = lt-leb m x (omega arith)
 
 pub both : (a b : Bool) → (a && b) ≡ true → (a ≡ true) × (b ≡ true)
 both true b e = (refl, e)
@@ -30,10 +68,6 @@ pub cond-same : {A : Type 0} (b : Bool) (x : A) → cond b x x ≡ x
 cond-same true x = refl
 cond-same false x = refl
 
--- 1 where the test passes, else 0
-abbrev pub bit : Bool → ℕ
-bit b = cond b 1 0
-
 pub bit-same : (a b : Bool) → bit a ≡ bit b → a ≡ b
 bit-same true true e = refl
 bit-same true false e = absurd (omega arith)
@@ -45,3 +79,7 @@ bit-less true true h = absurd (omega arith)
 bit-less true false h = absurd (omega arith)
 bit-less false true h = (refl, refl)
 bit-less false false h = absurd (omega arith)
+
+-- a test as the code's number
+pub cast-is-bit : (b : Bool) → boolByte b ≡ bit b
+cast-is-bit b = by-test (λ b. boolByte b ≡ bit b) b (λ _. refl) (λ _. refl)

@@ -2,6 +2,12 @@ pub mod Numbers
 pub mod Statements
 pub mod Bools
 pub mod Lists
+pub mod Counts
 pub mod Leads
 pub mod Sums
 pub mod Stores
+pub mod Rows
+pub mod Ranges
+pub mod FirstGreatest
+pub mod Fronts
+pub mod FrontValues

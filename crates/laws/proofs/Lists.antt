@@ -3,14 +3,14 @@ use mathlib.Core.Path.{_≡_, refl, sym, ap, _∙_}
 use mathlib.Core.Bool.{Bool, true, false, cond, _&&_, _||_, false≢true, or-true, and-false, and-or-distrib-left}
 use mathlib.Core.List.{List, [], _∷_, _++_, map, List·Memᴰ, List·Memᴰ·head, List·Memᴰ·tail, List·Memᴰ·not-nil, List·Memᴰ·cases-cons}
 use mathlib.Core.Logic.{inl, inr}
-use Prim.Native.Nat.{ℕ, zero, suc, _+_, _≤_, _<_}
+use Prim.Native.Nat.{ℕ, zero, suc, _+_, _-_, _≤_, _<_, max}
 use native.Mathlib.Nat.{add-zero}
 use native.Mathlib.Decide.{ℕ-discrete}
 use native.Mathlib.Omega.{arith}
 use lib.Dec.{eqb}
 use lib.ListN.{length, getD, length-map, replicate}
 use borrow.Author.Tests.{eq-eqb, ne-eqb, eqb-true}
-use Rattle.laws.specs.Lists.{range, has, those}
+use Rattle.laws.specs.Lists.{range, greatest, has, those}
 use Rattle.laws.proofs.Bools.{by-test, not-both}
 
 -- ---- membership
@@ -86,6 +86,45 @@ entry-of-range f i (suc n) zero rest h = rw (add-zero i)
 entry-of-range f i (suc n) (suc b) rest h =
     let e : i + suc b ≡ suc i + b = omega arith in
     rw e (entry-of-range f (suc i) n b rest (omega arith))
+
+-- f from the next number on
+pub map-of-range-shift : (f : ℕ → ℕ) (i n : ℕ) → map f (range (suc i) n) ≡ map (λ j. f (suc j)) (range i n)
+unfolding range
+map-of-range-shift f i zero = refl
+map-of-range-shift f i (suc n) = ap (λ l. f (suc i) ∷ l) (map-of-range-shift f (suc i) n)
+
+-- a list's entries, read past its end: the list, then zeros
+pub entries-padded : (l : List ℕ) (n : ℕ) → length l ≤ n → map (λ j. getD l j 0) (range 0 n) ≡ l ++ replicate (n - length l) 0
+unfolding range
+entries-padded [] zero h = refl
+entries-padded [] (suc n) h =
+    let e : suc n - 0 ≡ suc n = omega arith in
+    let z : n - 0 ≡ n = omega arith in
+    let rest = entries-padded [] n (omega arith) in
+    rw e (ap (λ (r : List ℕ). 0 ∷ r) (map-of-range-shift (λ j. getD [] j 0) 0 n ∙ (rw z at rest)))
+entries-padded (x ∷ l) zero h = absurd (omega arith)
+entries-padded (x ∷ l) (suc n) h =
+    let e : suc n - suc (length l) ≡ n - length l = omega arith in
+    rw e (ap (λ r. x ∷ r) (map-of-range-shift (λ j. getD (x ∷ l) j 0) 0 n ∙ entries-padded l n (omega arith)))
+
+-- the greatest of f over one number more
+pub greatest-snoc : (f : ℕ → ℕ) (i n : ℕ) → greatest f (range i (suc n)) ≡ max (greatest f (range i n)) (f (i + n))
+unfolding greatest range
+greatest-snoc f i zero = rw (add-zero i) (omega arith)
+greatest-snoc f i (suc n) =
+    let e : i + suc n ≡ suc i + n = omega arith in
+    rw e (omega (arith, greatest-snoc f (suc i) n))
+
+-- the greatest is none below f of a member, and no more than what f never passes
+pub greatest-over : (f : ℕ → ℕ) (v : ℕ) (l : List ℕ) → has l v ≡ true → f v ≤ greatest f l
+unfolding greatest
+greatest-over f v [] h = absurd (has-none v h)
+greatest-over f v (x ∷ l) h = has-cases (f v ≤ greatest f (x ∷ l)) x v l (λ e. rw e (omega arith)) (λ m. omega (arith, greatest-over f v l m)) h
+
+pub greatest-within : (f : ℕ → ℕ) (most : ℕ) (l : List ℕ) → ((v : ℕ) → f v ≤ most) → greatest f l ≤ most
+unfolding greatest
+greatest-within f most [] h = omega arith
+greatest-within f most (x ∷ l) h = omega (arith, h x, greatest-within f most l h)
 
 -- ---- those that pass a test
 

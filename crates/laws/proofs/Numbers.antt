@@ -1,7 +1,31 @@
--- Laws of products and differences.
+-- Laws of products and differences, and of places in rows of equal length.
 use mathlib.Core.Path.{_≡_, ap}
-use Prim.Native.Nat.{ℕ, _+_, _*_, _-_, _≤_}
+use Prim.Native.Nat.{ℕ, _+_, _*_, _-_, _≤_, _<_}
+use native.Mathlib.Decide.{decLt}
+use native.Mathlib.Nat.{suc-mul, mul-le-mul-right}
 use native.Mathlib.Omega.{arith}
 
 pub mul-sub-add : (f a b : ℕ) → b ≤ a → f * (a - b) + f * b ≡ f * a
 mul-sub-add f a b h = let e : a - b + b ≡ a = omega arith in omega (arith, ap (λ x. f * x) e)
+
+-- ---- rows of w entries, one after the other
+
+-- a row ends where a later one begins or before
+pub row-before : {i j : ℕ} (w : ℕ) → i < j → i * w + w ≤ j * w
+row-before {i} {j} w h = rw suc-mul at (mul-le-mul-right w h)
+
+-- an entry of one of n rows stands before their end
+pub row-within : {i j n w : ℕ} → i < n → j < w → i * w + j < n * w
+row-within {w = w} h k = omega (arith, row-before w h)
+
+-- an entry's place tells its row and its place in it
+pub row-same : (i j k l w : ℕ) → k < w → l < w → i * w + k ≡ j * w + l → (i ≡ j) × (k ≡ l)
+row-same i j k l w h m e =
+    elim (decLt i j) [
+      | yes p ↦ absurd (omega (arith, row-before w p))
+      | no p ↦
+          elim (decLt j i) [
+            | yes q ↦ absurd (omega (arith, row-before w q))
+            | no q ↦ let s : i ≡ j = omega arith in (s, omega (arith, ap (λ r. r * w) s))
+          ]
+    ]

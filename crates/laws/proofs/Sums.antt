@@ -1,8 +1,9 @@
 -- Laws of sums over lists and ranges.
-use mathlib.Core.Path.{_≡_, refl, sym}
+use mathlib.Core.Path.{_≡_, refl, sym, _∙_}
 use mathlib.Core.Bool.{Bool, true, cond}
 use mathlib.Core.List.{List, [], _∷_}
 use Prim.Native.Nat.{ℕ, zero, suc, _+_, _*_, _≤_, _<_}
+use native.Mathlib.Nat.{add-zero}
 use native.Mathlib.Decide.{ℕ-discrete}
 use native.Mathlib.Omega.{arith}
 use Rattle.laws.specs.Lists.{range, sum, has, those}
@@ -35,6 +36,14 @@ unfolding sum
 sum-same f g [] h = refl
 sum-same f g (v ∷ l) h = omega (arith, h v (has-head v l), sum-same f g l (λ u m. h u (has-tail v u l m)))
 
+-- a function that is 0 on the list
+pub sum-zero : (f : ℕ → ℕ) (l : List ℕ) → ((v : ℕ) → has l v ≡ true → f v ≡ 0) → sum f l ≡ 0
+sum-zero f l h = sum-same f (λ _. 0) l h ∙ sum-none l
+
+-- a sum that counts only where a test passes
+pub sum-where : (f : ℕ → ℕ) (b : Bool) (l : List ℕ) → sum (λ c. cond b (f c) 0) l ≡ cond b (sum f l) 0
+sum-where f b l = by-test (λ a. sum (λ c. cond a (f c) 0) l ≡ cond a (sum f l) 0) b (λ _. refl) (λ _. sum-none l)
+
 -- the sum over those that pass a test
 pub sum-those : (f : ℕ → ℕ) (p : ℕ → Bool) (l : List ℕ) → sum f (those p l) ≡ sum (λ c. cond (p c) (f c) 0) l
 unfolding sum those
@@ -47,6 +56,21 @@ pub sum-le : (f : ℕ → ℕ) (most : ℕ) (i n : ℕ) → ((j : ℕ) → f j �
 unfolding sum range
 sum-le f most i zero h = omega arith
 sum-le f most i (suc n) h = omega (arith, h i, sum-le f most (suc i) n h)
+
+-- one number more
+pub sum-snoc : (f : ℕ → ℕ) (i n : ℕ) → sum f (range i (suc n)) ≡ sum f (range i n) + f (i + n)
+unfolding sum range
+sum-snoc f i zero = rw (add-zero i) (omega arith)
+sum-snoc f i (suc n) =
+    let e : i + suc n ≡ suc i + n = omega arith in
+    rw e (omega (arith, sum-snoc f (suc i) n))
+
+-- over fewer numbers
+pub sum-fewer : (f : ℕ → ℕ) (i m n : ℕ) → m ≤ n → sum f (range i m) ≤ sum f (range i n)
+unfolding sum range
+sum-fewer f i zero n h = omega arith
+sum-fewer f i (suc m) zero h = absurd (omega arith)
+sum-fewer f i (suc m) (suc n) h = omega (arith, sum-fewer f (suc i) m n (omega arith))
 
 -- two functions that differ by x at k alone
 pub sum-point : (f g : ℕ → ℕ) (k x i n : ℕ) → f k ≡ x + g k → ((v : ℕ) → (v ≡ k → ⊥) → f v ≡ g v) → i ≤ k → k < i + n

@@ -40,10 +40,14 @@ unfoldable pub those : (ℕ → Bool) → List ℕ → List ℕ
 those p [] = []
 those p (x ∷ xs) = let r = those p xs in cond (p x) (x ∷ r) r
 
+-- 1 where a test passes, else 0
+abbrev pub bit : Bool → ℕ
+bit b = cond b 1 0
+
 -- how many pass the test
 unfoldable pub howMany : (ℕ → Bool) → List ℕ → ℕ
 howMany p [] = 0
-howMany p (x ∷ xs) = cond (p x) 1 0 + howMany p xs
+howMany p (x ∷ xs) = bit (p x) + howMany p xs
 
 -- the first that passes the test, else d
 unfoldable pub firstThat : (ℕ → Bool) → ℕ → List ℕ → ℕ

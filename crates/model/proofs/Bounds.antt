@@ -1,13 +1,14 @@
--- Within the sizes of a tree file every distance is at most 32,000 and every total is below 2^62.
+-- Within the sizes of a tree file the height is at most 32, every distance at most 32,000 and every total below 2^62.
 use Prim.Native.Nat.{ℕ, suc, _+_, _*_, _-_, _≤_, _<_}
 use mathlib.Core.List.{List}
 use native.Mathlib.Nat.{mul-le-mul}
 use native.Mathlib.Omega.{arith}
 use lib.ListN.{length}
 use Rattle.laws.specs.Lists.{sum}
+use Rattle.laws.proofs.Lists.{greatest-within}
 use Rattle.laws.proofs.Sums.{sum-le}
 use Rattle.model.specs.File.{Tree, Demand, mostDepth, mostLength, mostFlow}
-use Rattle.model.specs.Tree.{route, depth, distance}
+use Rattle.model.specs.Tree.{nodes, route, depth, height, distance}
 use Rattle.model.specs.Bill.{thousandths, totalLimit, price, cost, total, serving}
 use Rattle.model.proofs.Routes.{route-server, route-up, by-route}
 use Rattle.model.proofs.Nearest.{cost-is}
@@ -26,15 +27,22 @@ module _ (t : Tree) (d : Demand) (ok : Sound t d) where
   unfolding depth
   distance-bound v = omega (arith, distance-by-route v, ok .shallow v)
 
-  abbrev mostCost : ℕ
+  pub height-bound : height t ≤ mostDepth
+  unfolding height
+  height-bound = greatest-within (depth t) mostDepth (nodes t) (ok .shallow)
+
+  abbrev pub mostCost : ℕ
   mostCost = mostFlow * (thousandths * (mostLength * mostDepth))
 
-  cost-bound : (k : List ℕ) (c : ℕ) → cost t d k c ≤ mostCost
+  pub price-bound : (c v : ℕ) → price t d c v ≤ mostCost
   unfolding price
-  cost-bound k c =
-      let x = thousandths * distance t c - d .hit c * distance t (serving t k c) in
+  price-bound c v =
+      let x = thousandths * distance t c - d .hit c * distance t v in
       let far : x ≤ thousandths * (mostLength * mostDepth) = omega (arith, distance-bound c) in
-      rw (cost-is t (ok .preorder) k d c) (mul-le-mul (ok .flow c) far)
+      mul-le-mul (ok .flow c) far
+
+  cost-bound : (k : List ℕ) (c : ℕ) → cost t d k c ≤ mostCost
+  cost-bound k c = rw (cost-is t (ok .preorder) k d c) (price-bound c (serving t k c))
 
   pub total-bound : (k : List ℕ) → total t d k < totalLimit
   unfolding total

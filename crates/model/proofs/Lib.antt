@@ -2,8 +2,11 @@ pub mod Cases
 pub mod Verdicts
 pub mod Accepted
 pub mod Routes
+pub mod Intervals
+pub mod Depths
 pub mod Nearest
 pub mod Loads
+pub mod Children
 pub mod Bounds
 pub mod Ascending
 pub mod Sets

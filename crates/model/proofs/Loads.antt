@@ -19,22 +19,22 @@ use Rattle.model.proofs.Nearest.{serving-server, serving-up, serving-ne
 
 module _ (t : Tree) (d : Demand) (pre : Preorder t) (k : List ℕ) (c : ℕ) where
   -- what the client at c sends over a link before a cache, and after one has served it
-  sent : Bool → ℕ
+  unfoldable pub sent : Bool → ℕ
   sent served = d .flow c * cond served (thousandths - d .hit c) thousandths
 
   -- what it puts on the link above v along the rest l of its route, where a cache was met before or not
-  bears : Bool → List ℕ → ℕ → ℕ
+  unfoldable pub bears : Bool → List ℕ → ℕ → ℕ
   bears met l v = cond (has l v) (sent (met || anyOf (has k) (upTo v l))) 0
 
   -- over the links above nodes 1 to m
   carried : ℕ → Bool → List ℕ → ℕ
   carried m met l = sum (λ v. bears met l v * t .linkLength v) (range 1 m)
 
-  bears-up : (met : Bool) (u v : ℕ) (l : List ℕ) → (v ≡ u → ⊥) → bears met (u ∷ l) v ≡ bears (met || has k u) l v
+  pub bears-up : (met : Bool) (u v : ℕ) (l : List ℕ) → (v ≡ u → ⊥) → bears met (u ∷ l) v ≡ bears (met || has k u) l v
   unfolding bears upTo anyOf
   bears-up met u v l n = rw (has-other u v l (λ e. n (sym e)), ne-eqb u v (λ e. n (sym e)), or-assoc)
 
-  bears-here : (met : Bool) (u : ℕ) (l : List ℕ) → has l u ≡ false → bears met (u ∷ l) u ≡ sent (met || has k u) + bears (met || has k u) l u
+  pub bears-here : (met : Bool) (u : ℕ) (l : List ℕ) → has l u ≡ false → bears met (u ∷ l) u ≡ sent (met || has k u) + bears (met || has k u) l u
   unfolding bears upTo anyOf
   bears-here met u l h = rw (has-head u l, eq-eqb u u refl, or-false (has k u), h) (omega arith)
 
@@ -104,7 +104,7 @@ module _ (t : Tree) (d : Demand) (pre : Preorder t) (k : List ℕ) (c : ℕ) whe
         (omega (arith, carried-all m c l .1, mul-assoc (d .flow c) (d .hit c) (distance t s), mul-assoc (d .flow c) thousandths (distance t c), mul-sub-add (d .flow c) (thousandths * distance t c) (d .hit c * distance t s) (mul-le-mul h (serving-near t pre k c))))
 
 module _ (t : Tree) (d : Demand) (pre : Preorder t) (k : List ℕ) where
-  link-load-is : (v : ℕ) → 1 ≤ v → linkLoad t d k v ≡ sum (λ c. bears t d pre k c false (route t c) v) (nodes t)
+  pub link-load-is : (v : ℕ) → 1 ≤ v → linkLoad t d k v ≡ sum (λ c. bears t d pre k c false (route t c) v) (nodes t)
   unfolding linkLoad clientLoad atOrBelow bears sent
   link-load-is zero h = absurd (omega arith)
   link-load-is (suc v) h = sum-those (clientLoad t d k (suc v)) (atOrBelow t (suc v)) (nodes t)

@@ -9,9 +9,9 @@ use native.Mathlib.Omega.{arith}
 use lib.Dec.{ltb, eqb}
 use lib.ListN.{length}
 use borrow.Author.Tests.{ltb-true, lt-ltb, le-ltb, eqb-true, eq-eqb}
-use Rattle.laws.specs.Lists.{range, has, howMany}
+use Rattle.laws.specs.Lists.{range, has, howMany, bit}
 use Rattle.laws.proofs.Statements.{rest-said}
-use Rattle.laws.proofs.Bools.{not-both, both, either, one-passes, bit, bit-same, bit-less}
+use Rattle.laws.proofs.Bools.{not-both, both, either, one-passes, bit-same, bit-less}
 use Rattle.laws.proofs.Lists.{has-cases, has-none, in-range}
 use Rattle.model.specs.File.{Tree, Demand}
 use Rattle.model.specs.Tree.{sites, route, atOrBelow}

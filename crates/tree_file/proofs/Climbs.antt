@@ -1,0 +1,80 @@
+-- Climbing a route by the file's own parents: what stays from node to node.
+use mathlib.Core.Path.{_≡_, refl, sym, ap, _∙_}
+use mathlib.Core.Bool.{true, false}
+use mathlib.Core.List.{List, [], _∷_}
+use Prim.Native.Nat.{ℕ, zero, suc, _+_, _≤_, _<_}
+use native.Mathlib.Omega.{arith}
+use lib.ListN.{length}
+use Rattle.laws.specs.Lists.{has}
+use Rattle.laws.proofs.Lists.{has-head, has-other}
+use Rattle.model.specs.File.{treeOf}
+use Rattle.model.specs.Tree.{route, depth}
+use Rattle.model.proofs.Routes.{route-server, parent-before-to, route-up-to}
+use Rattle.fields.specs.Table.{InFile}
+use Rattle.tree_file.specs.Checks.{Climbable}
+
+-- x is met going up from v
+pub record Climbing (file : List ℕ) (v x : ℕ) : Type 0 where
+  pub climbable : Climbable file v
+  pub under : x ≤ v
+
+module _ (file : List ℕ) (v : ℕ) where
+  pub climb-begins : Climbable file v → Climbing file v v
+  climb-begins r = record { climbable = r; under = omega arith }
+
+  pub record-below : (x : ℕ) → Climbing file v x → InFile file x
+  record-below x k =
+      let here = k .climbable .here in
+      record { node = omega (arith, here .node, k .under); long = omega (arith, here .long, k .under) }
+
+  -- one link up, from a node other than the server
+  pub parent-less : (x y : ℕ) → Climbing file v x → (x ≡ 0 → ⊥) → y ≡ treeOf file .parent x → y < x
+  parent-less zero y k z e = absurd (z refl)
+  parent-less (suc x) y k z e =
+      omega (arith, parent-before-to (treeOf file) (suc v) (k .climbable .preorder) x (omega (arith, k .under)))
+
+  pub climb-turns : (x y : ℕ) → Climbing file v x → (x ≡ 0 → ⊥) → y ≡ treeOf file .parent x → Climbing file v y
+  climb-turns x y k z e = record { climbable = k .climbable; under = omega (arith, parent-less x y k z e, k .under) }
+
+  route-turns : (x y : ℕ) → Climbing file v x → (x ≡ 0 → ⊥) → y ≡ treeOf file .parent x → route (treeOf file) x ≡ x ∷ route (treeOf file) y
+  route-turns zero y k z e = absurd (z refl)
+  route-turns (suc x) y k z e =
+      rw e (route-up-to (treeOf file) (suc v) (k .climbable .preorder) x (omega (arith, k .under)))
+
+  route-here : (x : ℕ) → Climbing file v x → has (route (treeOf file) x) x ≡ true
+  route-here zero k = rw (route-server (treeOf file)) (has-head 0 [])
+  route-here (suc x) k = rw (route-turns (suc x) _ k (λ e. omega arith) refl) (has-head (suc x) _)
+
+  -- ---- is a on the route?
+
+  -- no node from v up to before x is a
+  abbrev pub Seeking : ℕ → ℕ → Type 0
+  Seeking a x = Climbing file v x × (has (route (treeOf file) v) a ≡ has (route (treeOf file) x) a)
+
+  pub seek-turns : (a x y : ℕ) → Seeking a x → (x ≡ 0 → ⊥) → (x ≡ a → ⊥) → y ≡ treeOf file .parent x → Seeking a y
+  seek-turns a x y k z n e =
+      (climb-turns x y (k .0) z e, k .1 ∙ rw (route-turns x y (k .0) z e) (has-other x a (route (treeOf file) y) n))
+
+  pub seek-misses : (a x : ℕ) → Seeking a x → x ≡ 0 → (x ≡ a → ⊥) → false ≡ has (route (treeOf file) v) a
+  unfolding has
+  seek-misses a x k z n = sym (k .1 ∙ rw (z, route-server (treeOf file)) (has-other 0 a [] (λ e. n (z ∙ e))))
+
+  pub seek-meets : (a x : ℕ) → Seeking a x → x ≡ a → true ≡ has (route (treeOf file) v) a
+  seek-meets a x k e = sym (k .1 ∙ rw (← e) (route-here x (k .0)))
+
+  -- ---- how many links?
+
+  abbrev pub Counting : ℕ → ℕ → Type 0
+  Counting x links = Climbing file v x × (length (route (treeOf file) v) ≡ links + length (route (treeOf file) x)) × (links + x ≤ v)
+
+  pub count-turns : (x y links : ℕ) → Counting x links → (x ≡ 0 → ⊥) → y ≡ treeOf file .parent x → Counting y (links + 1)
+  count-turns x y links k z e = (
+    climb-turns x y (k .0) z e,
+    omega (arith, k .1, ap length (route-turns x y (k .0) z e)),
+    omega (arith, parent-less x y (k .0) z e, k .2),
+  )
+
+  pub count-ends : (x links : ℕ) → Counting x links → x ≡ 0 → links ≡ depth (treeOf file) v
+  unfolding depth
+  count-ends x links k z =
+      omega (arith, k .1, ap (λ (u : ℕ). length (route (treeOf file) u)) z, ap length (route-server (treeOf file)))

@@ -1,0 +1,5 @@
+mod Climbs
+mod Records
+mod Header
+pub mod Accepted
+pub mod Services

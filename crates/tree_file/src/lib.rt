@@ -1,0 +1,254 @@
+// The check of a tree file by rules 1 to 11, the record of a node, and the check for a C host.
+ghost use mathlib.Core.Path.{_≡_};
+ghost use Prim.Native.Nat.{_≤_, max};
+ghost use lib.ListN.{length};
+ghost use Rattle.laws.specs.Lists.{has, part};
+ghost use Rattle.model.specs.File.{countOf, headerLength, recordAt, recordLength, treeOf, demandOf};
+ghost use Rattle.model.specs.Tree.{route, depth, height};
+ghost use Rattle.model.specs.Rules.{passed, marked, parentHolds, lengthHolds, recordVerdict, recordsVerdict, fileVerdict};
+ghost use Rattle.model.specs.Calls.{answer, checkNumber, recordBytes};
+ghost use Rattle.fields.specs.Table.{InFile};
+ghost use Rattle.tree_file.specs.Checks.{verdictOf, answerOf, sizesOf, Climbable, NextRecord, RecordsThere};
+
+// The first no among the rules asked, with its number and record, if there is one.
+pub enum Ruling {
+    Passed,
+    Broken(u8, u16),
+}
+
+// An accepted file's n, k and h, or the refusal with its number and record.
+pub enum Checked {
+    Accepted(fields::Tree),
+    Refused(u8, u16),
+}
+
+// ---- routes, by the file's own parents
+
+// Is a on the route of v?
+fn on_route(file: &[u8], v: usize, a: usize) -> bool
+    requires { ⌜ Climbable (now file) v ⌝ }
+    ensures { λ r. ⌜ r ≡ has (route (treeOf (now (file .entry))) v) a ⌝ }
+{
+    let mut x = v;
+    while x != a {
+        if x == 0 {
+            return false;
+        }
+        x = fields::parent_of(file, x);
+    }
+    true
+}
+
+// Links from v to the server.
+pub fn depth_of(file: &[u8], v: usize) -> usize
+    requires { ⌜ Climbable (now file) v ⌝ }
+    ensures { λ r. ⌜ r ≡ depth (treeOf (now (file .entry))) v ⌝ }
+{
+    let mut x = v;
+    let mut links = 0;
+    while x != 0 {
+        x = fields::parent_of(file, x);
+        links += 1;
+    }
+    links
+}
+
+// ---- rules 7 to 11, record by record
+
+// Rule 7.
+fn parent_holds(file: &[u8], i: usize) -> bool
+    requires { ⌜ NextRecord (now file) i ⌝ }
+    ensures { λ r. ⌜ r ≡ parentHolds (treeOf (now (file .entry))) i ⌝ }
+{
+    let parent = fields::parent_of(file, i);
+    if i == 0 {
+        return parent == 0;
+    }
+    on_route(file, i - 1, parent)
+}
+
+// Rule 9.
+fn length_holds(file: &[u8], i: usize) -> bool
+    requires { ⌜ InFile (now file) i ⌝ }
+    ensures { λ r. ⌜ r ≡ lengthHolds (treeOf (now (file .entry))) i ⌝ }
+{
+    if i == 0 {
+        return fields::field_of(file, 1, i) == 0;
+    }
+    fields::within(file, 1, i)
+}
+
+// Rules 7 to 11 of record i, where they hold of the records before it.
+fn record_ruling(file: &[u8], i: usize) -> Ruling
+    requires { ⌜ NextRecord (now file) i ⌝ }
+    ensures { λ r. ⌜ verdictOf r ≡ recordVerdict (treeOf (now (file .entry))) (demandOf (now (file .entry))) i ⌝ }
+{
+    let record = i as u16;
+    if !parent_holds(file, i) {
+        return Ruling::Broken(7, record);
+    }
+    if fields::Tree::DEPTH < depth_of(file, i) {
+        return Ruling::Broken(8, record);
+    }
+    if !length_holds(file, i) {
+        return Ruling::Broken(9, record);
+    }
+    if !fields::within(file, 2, i) {
+        return Ruling::Broken(10, record);
+    }
+    if !fields::within(file, 3, i) {
+        return Ruling::Broken(11, record);
+    }
+    Ruling::Passed
+}
+
+// Each of the first n records through rules 7 to 11 before the next.
+fn records_ruling(file: &[u8], n: usize) -> Ruling
+    requires { ⌜ RecordsThere (now file) n ⌝ }
+    ensures { λ r. ⌜ verdictOf r ≡ recordsVerdict (treeOf (now (file .entry))) (demandOf (now (file .entry))) n ⌝ }
+{
+    let mut i = 0;
+    while i < n {
+        let ruling = record_ruling(file, i);
+        match ruling {
+            Ruling::Passed => {}
+            Ruling::Broken(q, record) => {
+                return Ruling::Broken(q, record);
+            }
+        }
+        i += 1;
+    }
+    Ruling::Passed
+}
+
+// ---- rules 1 to 11
+
+// Rule 2.
+fn is_marked(file: &[u8]) -> bool
+    requires { ⌜ headerLength ≤ length (now file) ⌝ }
+    ensures { λ r. ⌜ r ≡ marked (now (file .entry)) ⌝ }
+{
+    let mark = b"KTR";
+    if file[0] != mark[0] {
+        return false;
+    }
+    if file[1] != mark[1] {
+        return false;
+    }
+    if file[2] != mark[2] {
+        return false;
+    }
+    true
+}
+
+// Rules 1 to 11.
+pub fn file_ruling(file: &[u8]) -> Ruling
+    ensures { λ r. ⌜ verdictOf r ≡ fileVerdict (now (file .entry)) ⌝ }
+{
+    if file.len() < fields::Tree::HEADER {
+        return Ruling::Broken(1, 0);
+    }
+    if !is_marked(file) {
+        return Ruling::Broken(2, 0);
+    }
+    if fields::version_of(file) != 1 {
+        return Ruling::Broken(3, 0);
+    }
+    let n = fields::count_of(file);
+    if n < 1 {
+        return Ruling::Broken(4, 0);
+    }
+    if fields::Tree::NODES < n {
+        return Ruling::Broken(4, 0);
+    }
+    if fields::Tree::BUDGET < fields::budget_of(file) {
+        return Ruling::Broken(5, 0);
+    }
+    if file.len() != fields::Tree::HEADER + fields::Tree::RECORD * n {
+        return Ruling::Broken(6, 0);
+    }
+    records_ruling(file, n)
+}
+
+fn larger(a: usize, b: usize) -> usize
+    ensures { λ r. ⌜ r ≡ max a b ⌝ }
+{
+    if a < b {
+        return b;
+    }
+    a
+}
+
+// h, the greatest depth of an accepted file.
+fn height_of(file: &[u8], n: usize) -> usize
+    requires { ⌜ fileVerdict (now file) ≡ passed ⌝ }
+    requires { ⌜ n ≡ countOf (now file) ⌝ }
+    ensures { λ r. ⌜ r ≡ height (treeOf (now (file .entry))) ⌝ }
+{
+    let mut tallest = 0;
+    let mut v = 0;
+    while v < n {
+        tallest = larger(tallest, depth_of(file, v));
+        v += 1;
+    }
+    tallest
+}
+
+// Rules 1 to 11, and n, k and h of an accepted file.
+pub fn check(file: &[u8]) -> Checked
+    ensures { λ r. ⌜ answerOf r ≡ answer (fileVerdict (now (file .entry))) (sizesOf (now (file .entry))) ⌝ }
+{
+    let ruling = file_ruling(file);
+    match ruling {
+        Ruling::Passed => {
+            let nodes = fields::count_of(file);
+            let budget = fields::budget_of(file);
+            let height = height_of(file, nodes);
+            Checked::Accepted(fields::Tree {
+                nodes,
+                budget,
+                height,
+            })
+        }
+        Ruling::Broken(q, record) => Checked::Refused(q, record),
+    }
+}
+
+// ---- services
+
+fn record_at(file: &[u8], v: usize) -> &[u8]
+    requires { ⌜ InFile (now file) v ⌝ }
+    ensures { λ r. ⌜ now r ≡ part (now (file .entry)) (recordAt v) recordLength ⌝ }
+{
+    let start = fields::Tree::HEADER + fields::Tree::RECORD * v;
+    let end = start + fields::Tree::RECORD;
+    &file[start..end]
+}
+
+// The ten bytes of node v inside the caller's file, empty if the file is refused or v is not below n.
+pub fn record_of(file: &[u8], v: usize) -> &[u8]
+    ensures { λ r. ⌜ now r ≡ recordBytes (now (file .entry)) v ⌝ }
+{
+    let ruling = file_ruling(file);
+    match ruling {
+        Ruling::Passed => {
+            if fields::count_of(file) <= v {
+                return &file[0..0];
+            }
+            record_at(file, v)
+        }
+        Ruling::Broken(_, _) => &file[0..0],
+    }
+}
+
+// For a C host: 0, or the number of the first broken rule among 1 to 11.
+#[no_mangle]
+pub extern "C" fn kterc_check(file: &[u8]) -> u32
+    ensures { λ r. ⌜ r ≡ checkNumber (now (file .entry)) ⌝ }
+{
+    let ruling = file_ruling(file);
+    match ruling {
+        Ruling::Passed => 0,
+        Ruling::Broken(q, _) => q as u32,
+    }
+}
