@@ -1,0 +1,64 @@
+-- Laws of the first of the least: it is less than every other or as small and no later, and a loop that keeps the least has it.
+use mathlib.Core.Path.{_≡_, refl, ap}
+use mathlib.Core.Bool.{cond}
+use Prim.Native.Nat.{ℕ, zero, suc, _+_, _≤_, _<_, min}
+use native.Mathlib.Decide.{decLe}
+use native.Mathlib.Numerals.{add-one}
+use native.Mathlib.Omega.{arith}
+use lib.Dec.{ltb}
+use borrow.Author.Tests.{ltb-true, ltb-false}
+use Rattle.laws.proofs.Bools.{by-test}
+use Rattle.best_rows.specs.Least.{better, firstLeast, low}
+
+-- a fact of the better of two is a fact of y where y is less, and of x where it is not
+pub better-cases : {A : Type 0} (P : A → Type 0) (f : A → ℕ) (x y : A) → (f y < f x → P y) → (f x ≤ f y → P x) → P (better f x y)
+unfolding better
+better-cases P f x y less more =
+    by-test (λ b. P (cond b y x)) (ltb (f y) (f x)) (λ e. less (ltb-true (f y) (f x) e)) (λ e. more (ltb-false (f y) (f x) e))
+
+pub better-min : {A : Type 0} (f : A → ℕ) (x y : A) → f (better f x y) ≡ min (f x) (f y)
+better-min f x y = better-cases (λ z. f z ≡ min (f x) (f y)) f x y (λ h. omega arith) (λ h. omega arith)
+
+module _ (f : ℕ → ℕ) where
+  -- i wins over j: it is less there, or as small and no later
+  abbrev pub Wins : ℕ → ℕ → Type 0
+  Wins i j = (f i ≤ f j) × (f i ≡ f j → i ≤ j)
+
+  pub first-least-within : (n : ℕ) → firstLeast f n ≤ n
+  unfolding firstLeast
+  first-least-within zero = omega arith
+  first-least-within (suc n) =
+      let earlier = first-least-within n in
+      better-cases (λ i. i ≤ suc n) f _ _ (λ h. omega arith) (λ h. omega arith)
+
+  pub first-least-wins : (n j : ℕ) → j ≤ n → Wins (firstLeast f n) j
+  unfolding firstLeast
+  first-least-wins zero zero h = omega arith
+  first-least-wins zero (suc j) h = omega arith
+  first-least-wins (suc n) j h =
+      elim (decLe j n) [
+        | yes i ↦
+            let earlier = first-least-wins n j i in
+            better-cases (λ i. Wins i j) f _ _ (λ less. omega arith) (λ more. earlier)
+        | no i ↦
+            let e : f j ≡ f (suc n) = ap f (omega arith) in
+            let earlier = first-least-within n in
+            better-cases (λ i. Wins i j) f _ _ (λ h. omega arith) (λ h. omega arith)
+      ]
+
+  -- a turn of a loop that keeps the first of the least, and of one that keeps the least
+  pub first-least-next : (n : ℕ) → firstLeast f (n + 1) ≡ better f (firstLeast f n) (n + 1)
+  unfolding firstLeast
+  first-least-next n = rw add-one
+
+  pub low-next : (top n : ℕ) → low top f (n + 1) ≡ min (low top f n) (f n)
+  unfolding low
+  low-next top n = rw add-one
+
+  -- the least that a loop keeps is f at the first of the least, or top
+  pub low-is : (top n : ℕ) → low top f (suc n) ≡ min top (f (firstLeast f n))
+  unfolding low firstLeast
+  low-is top zero = refl
+  low-is top (suc n) =
+      better-cases (λ i. min (low top f (suc n)) (f (suc n)) ≡ min top (f i)) f (firstLeast f n) (suc n)
+      (λ h. omega (arith, low-is top n)) (λ h. omega (arith, low-is top n))

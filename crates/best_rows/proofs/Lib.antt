@@ -1,0 +1,13 @@
+pub mod Least
+pub mod Best
+pub mod TreeRows
+pub mod Cover
+pub mod Below
+pub mod Totals
+pub mod Ties
+pub mod Chosen
+pub mod RanksFirst
+pub mod Optimum
+pub mod Table
+pub mod Guarded
+pub mod TwoCounts
