@@ -1,0 +1,140 @@
+-- `node` and `row`, which call each other, keep their contracts.
+use Prim.Native.Nat.{ℕ, _+_, _*_, _-_, _<_}
+use native.Mathlib.Omega.{arith}
+use borrow.Author.Needs.{needs}
+use borrow.Fn.Kinds.{In}
+use borrow.Fn.PlainCycle.{Measures, is, falls, and}
+use Rattle.fields.proofs.parent_of.Reads as parent-of-reads
+use Rattle.placement.proofs.Turns.{still-walkable, children-begin, row-bounded, node-raised, row-over, row-left, rest-begins, sums-fit, row-joined}
+use Rattle.placement.proofs.+node+row.{statement}
+use Rattle.placement.proofs.+node+row.Tie.{close}
+use Rattle.placement.proofs.node.Reads as node
+use Rattle.placement.proofs.node.Kinds as node-kinds
+use Rattle.placement.proofs.+node+row.Lts-node as node-lts
+use Rattle.placement.proofs.row.Reads as row
+use Rattle.placement.proofs.row.Kinds as row-kinds
+use Rattle.placement.proofs.+node+row.Lts-row as row-lts
+use Rattle.placement.proofs.joined.Reads as joined-reads
+use Rattle.placement.proofs.raised.Reads as raised-reads
+
+abbrev μ-node : Measures 3 node-kinds.ps ℕ
+μ-node κs a = 2 * (a .1 .0 - a .1 .1 .1 .1 .0)
+
+abbrev μ-row : Measures 3 row-kinds.ps ℕ
+μ-row κs a = 2 * (a .1 .0 - a .1 .1 .1 .1 .1 .0) + 1
+
+abbrev node-at : ℕ → In 3 node-kinds.ps
+node-at t = and 3 node-kinds.ps (is 3 node-kinds.ps μ-node t) node.Pre
+
+abbrev node-below : ℕ → In 3 node-kinds.ps
+node-below t = and 3 node-kinds.ps (falls 3 node-kinds.ps _<_ μ-node t) node.Pre
+
+abbrev row-at : ℕ → In 3 row-kinds.ps
+row-at t = and 3 row-kinds.ps (is 3 row-kinds.ps μ-row t) row.Pre
+
+abbrev row-below : ℕ → In 3 row-kinds.ps
+row-below t = and 3 row-kinds.ps (falls 3 row-kinds.ps _<_ μ-row t) row.Pre
+
+-- what each of the two may ask of the functions that it calls
+abbrev node-claims : ℕ → node-lts.Claims
+node-claims t = (row-below t, row.Post, raised-reads.Asked, raised-reads.Learnt)
+
+abbrev row-claims : ℕ → row-lts.Claims
+row-claims t =
+    (parent-of-reads.Asked, parent-of-reads.Learnt, node-below t, node.Post, row-below t, row.Post, joined-reads.Asked, joined-reads.Learnt)
+
+node-add-row : (t : ℕ) → node-lts.Need-add-row (node-claims t) (node-at t) node.Post
+node-add-row t c = search needs
+
+node-row-requires : (t : ℕ) → node-lts.Need-row-requires (node-claims t) (node-at t) node.Post
+node-row-requires t c κs =
+    let start = c .before .before .before .before in
+    (omega (arith, start .pre .0), (start .pre .1 .0, children-begin (start .pre .1 .0) _ (start .pre .1 .1 .1)))
+
+node-mul-raised : (t : ℕ) → node-lts.Need-mul-raised (node-claims t) (node-at t) node.Post
+node-mul-raised t c = search needs
+
+node-shared-slice-read-raised : (t : ℕ) → node-lts.Need-shared-slice-read-raised (node-claims t) (node-at t) node.Post
+node-shared-slice-read-raised t c = search needs
+
+node-cast-raised : (t : ℕ) → node-lts.Need-cast-raised (node-claims t) (node-at t) node.Post
+node-cast-raised t c = omega (arith, c .shared-slice-known3 .given (c .before .before .before .before .before .before .before .before .args .v))
+
+node-raised-requires : (t : ℕ) → node-lts.Need-raised-requires (node-claims t) (node-at t) node.Post
+node-raised-requires t c κs =
+    let start = c .before .before .before .before .before .before .before .before in
+    ((start .pre .1 .0 .ofFile, start .pre .1 .1 .1), row-bounded (start .pre .1 .0) (c .before .before .before .row .ensures))
+
+node-mul-loads : (t : ℕ) → node-lts.Need-mul-loads (node-claims t) (node-at t) node.Post
+node-mul-loads t c = search needs
+
+node-slice-write-loads : (t : ℕ) → node-lts.Need-slice-write-loads (node-claims t) (node-at t) node.Post
+node-slice-write-loads t c = search needs
+
+node-same-length : (t : ℕ) → node-lts.Need-same-length (node-claims t) (node-at t) node.Post
+node-same-length t c = search needs
+
+node-returns : (t : ℕ) → node-lts.Need-returns (node-claims t) (node-at t) node.Post
+node-returns t c =
+    let start = c .before .before .before .before .before .before .before .before .before in
+    node-raised (start .pre .1 .0) (start .pre .1 .1 .0) (start .pre .1 .1 .1) (c .before .before .before .before .row .ensures) (c .raised .ensures .0) (c .raised .ensures .1)
+
+row-returns : (t : ℕ) → row-lts.Need-returns (row-claims t) (row-at t) row.Post
+row-returns t c = row-over (c .before .before .before .before .pre .1 .0) _ _ (c .if1 .taken)
+
+row-parent-of-requires : (t : ℕ) → row-lts.Need-parent-of-requires (row-claims t) (row-at t) row.Post
+row-parent-of-requires t c κs = search needs
+
+row-returns-2 : (t : ℕ) → row-lts.Need-returns-2 (row-claims t) (row-at t) row.Post
+row-returns-2 t c =
+    let start = c .before .before .before .before .before .before in
+    row-left (start .pre .1 .0) (start .pre .1 .1) _ (c .before .parent-of .ensures) (c .if2 .taken)
+
+row-node-requires : (t : ℕ) → row-lts.Need-node-requires (row-claims t) (row-at t) row.Post
+row-node-requires t c κs =
+    let start = c .before .before .before .before .before .before .before in
+    (omega (arith, start .pre .0), (start .pre .1 .0, (omega (arith, start .pre .1 .1 .after), omega (arith, start .pre .1 .1 .inFile, start .pre .1 .0 .ofFile .nodes, c .before .before .before .if1 .left))))
+
+row-row-requires : (t : ℕ) → row-lts.Need-row-requires (row-claims t) (row-at t) row.Post
+row-row-requires t c κs =
+    let start = c .before .before .before .before .before .before .before .before .before .before .before in
+    (omega (arith, start .pre .0, c .before .before .before .node .ensures .ends .from), (still-walkable (start .pre .1 .0) (c .before .before .before .node .kept .1 .1 .1 .0), rest-begins (start .pre .1 .0) (start .pre .1 .1) _ (c .before .before .before .before .before .before .parent-of .ensures) (c .before .before .before .before .before .before .before .if1 .left) (c .before .before .before .before .before .if2 .left) (c .before .before .before .node .ensures)))
+
+row-joined-requires : (t : ℕ) → row-lts.Need-joined-requires (row-claims t) (row-at t) row.Post
+row-joined-requires t c κs =
+    let start = c .before .before .before .before .before .before .before .before .before .before .before .before .before .before in
+    sums-fit (start .pre .1 .0) (start .pre .1 .1) _ (c .before .before .before .before .before .before .before .before .before .parent-of .ensures) (c .before .before .before .before .before .before .before .before .before .before .if1 .left) (c .before .before .before .before .before .before .before .before .if2 .left) (c .before .before .before .before .before .before .node .ensures) (c .before .before .row .ensures)
+
+row-same-length : (t : ℕ) → row-lts.Need-same-length (row-claims t) (row-at t) row.Post
+row-same-length t c = search needs
+
+row-returns-3 : (t : ℕ) → row-lts.Need-returns-3 (row-claims t) (row-at t) row.Post
+row-returns-3 t c =
+    let start = c .before .before .before .before .before .before .before .before .before .before .before .before .before .before .before in
+    row-joined (start .pre .1 .0) (start .pre .1 .1) _ (c .before .before .before .before .before .before .before .before .before .before .parent-of .ensures) (c .before .before .before .before .before .before .before .before .before .before .before .if1 .left) (c .before .before .before .before .before .before .before .before .before .if2 .left) (c .before .before .before .before .before .before .before .node .ensures) (c .before .before .before .row .ensures) (c .joined .ensures)
+
+pub +node+row-spec : {M : Type 1} → statement M
++node+row-spec = close μ-node μ-row (λ t. node-lts.spec (node-claims t)
+    (node-at t)
+    node.Post
+    (node-add-row t)
+    (node-row-requires t)
+    (node-mul-raised t)
+    (node-shared-slice-read-raised t)
+    (node-cast-raised t)
+    (node-raised-requires t)
+    (node-mul-loads t)
+    (node-slice-write-loads t)
+    (node-same-length t)
+    (node-returns t))
+    λ t. row-lts.spec (row-claims t)
+    (row-at t)
+    row.Post
+    (row-returns t)
+    (row-parent-of-requires t)
+    (row-returns-2 t)
+    (row-node-requires t)
+    (row-row-requires t)
+    (row-joined-requires t)
+    (row-same-length t)
+    (row-returns-3 t)

@@ -1,0 +1,50 @@
+-- Every load and sum of a walk is far below 2^64.
+use mathlib.Core.Path.{_≡_, sym}
+use Prim.Native.Nat.{ℕ, zero, suc, _*_, _-_, _≤_}
+use mathlib.Core.Bool.{cond}
+use mathlib.Core.List.{List}
+use native.Mathlib.Nat.{mul-le-mul, mul-le-mul-left, mul-sub}
+use native.Mathlib.Omega.{arith}
+use Rattle.laws.specs.Lists.{anyOf, has}
+use Rattle.laws.proofs.Bools.{by-test}
+use Rattle.laws.proofs.Sums.{sum-le}
+use Rattle.laws.proofs.Ranges.{sum-those-le}
+use Rattle.model.specs.File.{Tree, Demand}
+use Rattle.model.specs.Tree.{route, atOrBelow}
+use Rattle.model.specs.Bill.{thousandths, upTo, clientLoad, linkLoad}
+use Rattle.model.proofs.Accepted.{Sound}
+use Rattle.model.proofs.Children.{relieved, childOf}
+use Rattle.placement.specs.Walks.{mostSent, mostLoad, mostOfRow, Walked, NodeWalked, RowWalked}
+
+module _ (t : Tree) (d : Demand) (ok : Sound t d) where
+  -- a client's cachable flow is a part of its flow, and the rest is what it sends once served
+  pub cachable-part : (c : ℕ) → d .flow c * d .hit c ≤ d .flow c * thousandths
+  cachable-part c = mul-le-mul-left (d .flow c) (ok .hit c)
+
+  pub relieved-rest : (c : ℕ) → d .flow c * thousandths - d .flow c * d .hit c ≡ relieved d c
+  relieved-rest c = sym (mul-sub (d .flow c) thousandths (d .hit c))
+
+  relieved-bound : (c : ℕ) → relieved d c ≤ mostSent
+  relieved-bound c = let less : thousandths - d .hit c ≤ thousandths = omega arith in mul-le-mul (ok .flow c) less
+
+  client-load-bound : (k : List ℕ) (v c : ℕ) → clientLoad t d k v c ≤ mostSent
+  unfolding clientLoad
+  client-load-bound k v c =
+      mul-le-mul (ok .flow c)
+      (by-test (λ b. cond b (thousandths - d .hit c) thousandths ≤ thousandths) (anyOf (has k) (upTo v (route t c))) (λ _. omega arith) (λ _. omega arith))
+
+  link-load-bound : (k : List ℕ) (v : ℕ) → linkLoad t d k v ≤ mostLoad
+  unfolding linkLoad
+  link-load-bound k zero = omega arith
+  link-load-bound k (suc v) =
+      omega (arith, ok .few, sum-those-le (clientLoad t d k (suc v)) (atOrBelow t (suc v)) mostSent 0 (t .count) (client-load-bound k (suc v)))
+
+  pub relief-bound : {k loads loads′ : List ℕ} {i e relief : ℕ} → e ≤ t .count → Walked t d k loads i e relief loads′ → relief ≤ mostLoad
+  relief-bound {i = i} {e = e} h w = omega (arith, ok .few, w .relieves, sum-le (relieved d) mostSent i (e - i) relieved-bound)
+
+  pub node-load-bound : {k loads loads′ : List ℕ} {v e load relief : ℕ} → NodeWalked t d k loads v e load relief loads′ → load ≤ mostLoad
+  node-load-bound {k} {v = v} w = omega (arith, w .loadAbove, link-load-bound k v)
+
+  pub row-load-bound : {k loads loads′ : List ℕ} {v i e load relief : ℕ} → RowWalked t d k loads v i e load relief loads′ → load ≤ mostOfRow
+  row-load-bound {k} {v = v} {i = i} {e = e} w =
+      omega (arith, ok .few, w .ends .inFile, w .loadsAbove, sum-those-le (linkLoad t d k) (childOf t v) mostLoad i (e - i) (link-load-bound k))

@@ -1,0 +1,87 @@
+-- Node and row by turns, as the code takes them: what each call may assume, and what its result owes.
+use mathlib.Core.Path.{_≡_, sym, _∙_}
+use mathlib.Core.Bool.{Bool, and-true}
+use mathlib.Core.List.{List}
+use Prim.Native.Nat.{ℕ, _+_, _-_, _≤_, _<_, _^_}
+use native.Mathlib.Omega.{arith}
+use lib.Dec.{eqb}
+use lib.ListN.{length, getD, set}
+use Rattle.laws.specs.Lists.{range, has}
+use Rattle.laws.proofs.Lists.{has-those, in-range}
+use Rattle.model.specs.File.{Tree, Demand, treeOf, demandOf}
+use Rattle.placement.specs.Passes.{selfServing, Walkable}
+use Rattle.placement.specs.Walks.{Begins, NodeWalked, RowWalked, Bounded, Raised}
+use Rattle.placement.proofs.Walks.{row-begins, row-at-end, row-stops, row-begins-again, row-goes-on, node-walked}
+use Rattle.placement.proofs.Sizes.{relief-bound, node-load-bound, row-load-bound}
+
+-- a site is a member just if it serves itself
+pub self-serving-member : (n : ℕ) (servings : List ℕ) (v : ℕ) → 1 ≤ v → v < n → eqb (getD servings v 0) v ≡ has (selfServing n servings) v
+unfolding selfServing
+self-serving-member n servings v z h =
+    let p : ℕ → Bool = λ u. eqb (getD servings u 0) u in
+    sym (has-those p v (range 1 (n - 1)) ∙ rw (in-range 1 (n - 1) v z (omega arith)) (and-true (p v)))
+
+module _ {file servings loads : List ℕ} {n : ℕ} (given : Walkable file n servings loads) where
+  abbrev t : Tree
+  t = treeOf file
+
+  abbrev d : Demand
+  d = demandOf file
+
+  abbrev k : List ℕ
+  k = selfServing n servings
+
+  -- with the loads that a walk has left
+  pub still-walkable : {loads′ : List ℕ} → length loads′ ≡ length loads → Walkable file n servings loads′
+  still-walkable e = record { ofFile = given .ofFile; servingsLong = given .servingsLong; loadsLong = omega (arith, given .loadsLong) }
+
+  -- ---- node v
+
+  pub children-begin : (v : ℕ) → v < n → Begins t v (v + 1)
+  children-begin v h = row-begins t (given .ofFile .sound .preorder) v (omega (arith, given .ofFile .nodes))
+
+  pub row-bounded : {loads₀ loads′ : List ℕ} {v i e load relief : ℕ} → RowWalked t d k loads₀ v i e load relief loads′ → Bounded load relief
+  row-bounded w = record {
+    loads = row-load-bound t d (given .ofFile .sound) w;
+    relieves = relief-bound t d (given .ofFile .sound) (w .ends .inFile) (w .walked);
+  }
+
+  pub node-raised : {loads′ : List ℕ} {v e load relief : ℕ} → 1 ≤ v → v < n → RowWalked t d k loads v (v + 1) e load relief loads′
+      → {end above whole : ℕ} → end ≡ e → Raised d (eqb (getD servings v 0) v) v load relief above whole
+      → NodeWalked t d k loads v end above whole (set loads′ v above)
+  node-raised {v = v} z h w e r =
+      rw e
+      (node-walked t d k (given .ofFile .sound .preorder) z (omega (arith, given .ofFile .nodes)) w (eqb (getD servings v 0) v) _ _
+      (self-serving-member n servings v z h) (r .relieves) (r .loadAbove))
+
+  -- ---- the row of v's children from node i on
+
+  pub row-over : (v i : ℕ) → i ≡ n → RowWalked t d k loads v i i 0 0 loads
+  row-over v i e = row-at-end t d k (given .ofFile .sound .preorder) loads v i (e ∙ given .ofFile .nodes)
+
+  module _ {v i : ℕ} (b : Begins t v i) (p : ℕ) (is-parent : p ≡ t .parent i) where
+    pub row-left : p < v → RowWalked t d k loads v i i 0 0 loads
+    row-left h = row-stops t d k (given .ofFile .sound .preorder) loads v i b (omega arith)
+
+    module _ (more : i ≡ n → ⊥) (child : v ≤ p) where
+      in-tree : i < t .count
+      in-tree = omega (arith, b .inFile, given .ofFile .nodes, more)
+
+      is-child : v ≤ t .parent i
+      is-child = omega arith
+
+      module _ {e load relief : ℕ} {loads′ : List ℕ} (first : NodeWalked t d k loads i e load relief loads′) where
+        pub rest-begins : Begins t v e
+        rest-begins = row-begins-again t d k (given .ofFile .sound .preorder) b in-tree is-child first
+
+        module _ {e₂ load₂ relief₂ : ℕ} {loads″ : List ℕ} (rest : RowWalked t d k loads′ v e e₂ load₂ relief₂ loads″) where
+          pub sums-fit : (load + load₂ < 2 ^ 64) × (relief + relief₂ < 2 ^ 64)
+          sums-fit =
+              let sound = given .ofFile .sound in (
+                omega (arith, node-load-bound t d sound first, row-load-bound t d sound rest),
+                omega (arith, relief-bound t d sound (first .ends .inFile) (first .walked), relief-bound t d sound (rest .ends .inFile) (rest .walked)),
+              )
+
+          pub row-joined : {end above whole : ℕ} → (end ≡ e₂) × (above ≡ load + load₂) × (whole ≡ relief + relief₂)
+              → RowWalked t d k loads v i end above whole loads″
+          row-joined is = rw (is .0, is .1, is .2) (row-goes-on t d k (given .ofFile .sound .preorder) b in-tree is-child first rest)

@@ -1,0 +1,177 @@
+-- The laws of the two walks: where a row begins, ends and goes on with its next child, and a node after its row.
+use mathlib.Core.Path.{_≡_, refl, sym, ap, _∙_}
+use mathlib.Core.Bool.{Bool, true, cond}
+use mathlib.Core.List.{List, [], _∷_, map}
+use Prim.Native.Nat.{ℕ, suc, _+_, _*_, _-_, _≤_, _<_}
+use native.Mathlib.Decide.{decLt, ℕ-discrete}
+use native.Mathlib.Omega.{arith}
+use lib.ListN.{set}
+use lib.Seq.{sets}
+use borrow.Author.Tests.{eq-eqb, ne-eqb}
+use Rattle.laws.specs.Lists.{range, sum, has, those}
+use Rattle.laws.proofs.Bools.{by-test, not-both}
+use Rattle.laws.proofs.Lists.{range-bounds}
+use Rattle.laws.proofs.Ranges.{range-cut, range-first, range-none, those-append, those-none, sum-append, stores-join, stores-first}
+use Rattle.model.specs.File.{Tree, Demand}
+use Rattle.model.specs.Tree.{nodes, atOrBelow}
+use Rattle.model.specs.Bill.{thousandths, linkLoad}
+use Rattle.model.proofs.Routes.{Preorder, route-ends}
+use Rattle.model.proofs.Intervals.{below-self, before-not-below, below-after, below-parent, below-trans, end-parent, subtree-is-range}
+use Rattle.model.proofs.Children.{relieved, childOf, children-in-subtree, load-above-member, load-above-other}
+use Rattle.placement.specs.Walks.{Begins, Ends, Walked, NodeWalked, RowWalked}
+
+module _ (t : Tree) (pre : Preorder t) where
+  -- ---- where walks begin and end
+
+  -- the row of v's children begins with the node after v
+  pub row-begins : (v : ℕ) → v < t .count → Begins t v (v + 1)
+  unfolding atOrBelow
+  row-begins v h =
+      let next : v + 1 ≡ suc v = omega arith in
+      record { after = omega arith; inFile = omega arith; hangs = λ _. rw next (pre v) }
+
+  -- where the parent of node i comes before v, node i is not below v
+  stops-here : (v i : ℕ) → Begins t v i → t .parent i < v → Ends t v i i
+  stops-here v i b h = record {
+    from = omega arith;
+    inFile = b .inFile;
+    within = λ c a l. absurd (omega arith);
+    beyond = λ _. below-parent t pre v i (b .after) ∙ before-not-below t pre v (t .parent i) h;
+  }
+
+  module _ (v i : ℕ) (b : Begins t v i) (h : i < t .count) (l : v ≤ t .parent i) where
+    -- else it is a child of v
+    is-child : t .parent i ≡ v
+    is-child = omega (arith, below-after t pre (t .parent i) v (b .hangs h))
+
+    child-below : atOrBelow t v i ≡ true
+    child-below = below-parent t pre v i (b .after) ∙ rw is-child (below-self t pre v)
+
+    module _ (e : ℕ) (x : Ends t i (i + 1) e) where
+      in-child : (c : ℕ) → i ≤ c → c < e → atOrBelow t i c ≡ true
+      in-child c a g = elim (ℕ-discrete i c) [ yes q ↦ rw q (below-self t pre c) | no q ↦ x .within c (omega arith) g ]
+
+      -- after the walk of a child the row goes on
+      begins-again : Begins t v e
+      begins-again =
+          let after-child = x .from in
+          let last = e - 1 in
+          let next : suc last ≡ e = omega arith in
+          record {
+            after = omega (arith, b .after);
+            inFile = x .inFile;
+            hangs = λ g. let up = end-parent t pre i last (in-child last (omega arith) (omega arith)) (rw next (x .beyond g)) in rw (next, is-child) at up;
+          }
+
+      ends-joined : (e₂ : ℕ) → Ends t v e e₂ → Ends t v i e₂
+      ends-joined e₂ y = record {
+        from = omega (arith, x .from, y .from);
+        inFile = y .inFile;
+        within = λ c a g. elim (decLt c e) [ yes q ↦ below-trans t pre v i c child-below (in-child c a q) | no q ↦ y .within c (omega arith) g ];
+        beyond = y .beyond;
+      }
+
+      -- of the nodes at or below a child of v, the child alone is one
+      only-child : those (childOf t v) (range i (e - i)) ≡ i ∷ []
+      unfolding those
+      only-child =
+          let rest = range (i + 1) (e - (i + 1)) in
+          let deeper : (c : ℕ) → i < c → c < e → t .parent c ≡ v → ⊥ =
+          λ c a g p. let up = sym (below-parent t pre i c a) ∙ in-child c (omega arith) g in omega (arith, b .after, below-after t pre i (t .parent c) up) in
+          rw (
+            range-first i e (omega (arith, x .from)),
+            eq-eqb (t .parent i) v is-child,
+            those-none (childOf t v) rest (λ c m. let c-in = range-bounds (i + 1) (e - (i + 1)) c m in ne-eqb (t .parent c) v (deeper c (omega arith) (omega (arith, x .from)))),
+          )
+
+-- ---- what walks write, one after the other
+
+module _ (t : Tree) (d : Demand) (k : List ℕ) where
+  walked-none : (loads : List ℕ) (i : ℕ) → Walked t d k loads i i 0 loads
+  unfolding sum
+  walked-none loads i = record { relieves = rw (range-none i); writes = rw (range-none i) }
+
+  walked-joined : {loads loads′ loads″ : List ℕ} {i e e₂ r r₂ : ℕ} → i ≤ e → e ≤ e₂
+      → Walked t d k loads i e r loads′ → Walked t d k loads′ e e₂ r₂ loads″ → Walked t d k loads i e₂ (r + r₂) loads″
+  walked-joined {loads} {i = i} {e = e} {e₂ = e₂} p q w w₂ = record {
+    relieves = rw (range-cut i e e₂ p q) (omega (arith, w .relieves, w₂ .relieves, sum-append (relieved d) (range i (e - i)) (range e (e₂ - e))));
+    writes = w₂ .writes ∙ ap (λ l. sets l e (map (linkLoad t d k) (range e (e₂ - e)))) (w .writes) ∙ stores-join loads (linkLoad t d k) i e e₂ p q;
+  }
+
+  walked-first : {loads loads′ : List ℕ} {v e r : ℕ} → v < e → Walked t d k loads (v + 1) e r loads′
+      → Walked t d k loads v e (relieved d v + r) (set loads′ v (linkLoad t d k v))
+  unfolding sum
+  walked-first {loads} {v = v} {e = e} h w = record {
+    relieves = rw (range-first v e h) (omega (arith, w .relieves));
+    writes = ap (λ l. set l v (linkLoad t d k v)) (w .writes) ∙ stores-first loads (linkLoad t d k) v e h;
+  }
+
+  module _ (pre : Preorder t) where
+    -- ---- a row of v's children from node i on
+
+    row-none : (loads : List ℕ) (v i : ℕ) → Ends t v i i → RowWalked t d k loads v i i 0 0 loads
+    unfolding sum those
+    row-none loads v i x = record { ends = x; loadsAbove = rw (range-none i); walked = walked-none loads i }
+
+    -- the file ends
+    pub row-at-end : (loads : List ℕ) (v i : ℕ) → i ≡ t .count → RowWalked t d k loads v i i 0 0 loads
+    row-at-end loads v i h =
+        row-none loads v i (record { from = omega arith; inFile = omega arith; within = λ c a l. absurd (omega arith); beyond = λ l. absurd (omega arith) })
+
+    -- the parent of node i comes before v
+    pub row-stops : (loads : List ℕ) (v i : ℕ) → Begins t v i → t .parent i < v → RowWalked t d k loads v i i 0 0 loads
+    row-stops loads v i b h = row-none loads v i (stops-here t pre v i b h)
+
+    -- node i is a child of v, and is walked: the row begins again after it
+    pub row-begins-again : {loads loads′ : List ℕ} {v i e load relief : ℕ} → Begins t v i → i < t .count → v ≤ t .parent i
+        → NodeWalked t d k loads i e load relief loads′ → Begins t v e
+    row-begins-again b h l w = begins-again t pre _ _ b h l _ (w .ends)
+
+    -- and with the walk of the rest the row is walked
+    pub row-goes-on : {loads loads′ loads″ : List ℕ} {v i e load relief e₂ load₂ relief₂ : ℕ} → Begins t v i → i < t .count → v ≤ t .parent i
+        → NodeWalked t d k loads i e load relief loads′ → RowWalked t d k loads′ v e e₂ load₂ relief₂ loads″
+        → RowWalked t d k loads v i e₂ (load + load₂) (relief + relief₂) loads″
+    unfolding sum
+    row-goes-on {v = v} {i = i} {e = e} {e₂ = e₂} b h l w w₂ =
+        let far : i ≤ e = omega (arith, w .ends .from) in
+        record {
+          ends = ends-joined t pre v i b h l e (w .ends) e₂ (w₂ .ends);
+          loadsAbove =
+              rw (range-cut i e e₂ far (w₂ .ends .from), those-append (childOf t v) (range i (e - i)) (range e (e₂ - e)), only-child t pre v i b h l e (w .ends))
+              (omega (arith, w .loadAbove, w₂ .loadsAbove));
+          walked = walked-joined far (w₂ .ends .from) (w .walked) (w₂ .walked);
+        }
+
+    -- ---- a node after the row of its children
+
+    load-by-row : (v e load relief : ℕ) → 1 ≤ v → v < t .count → Ends t v (v + 1) e → load ≡ sum (linkLoad t d k) (those (childOf t v) (range (v + 1) (e - (v + 1))))
+        → relief ≡ sum (relieved d) (range v (e - v)) → cond (has k v) relief (d .flow v * thousandths + load) ≡ linkLoad t d k v
+    load-by-row v e load relief z h x below whole =
+        let far : v < e = omega (arith, x .from) in
+        by-test (λ b. has k v ≡ b → cond b relief (d .flow v * thousandths + load) ≡ linkLoad t d k v) (has k v)
+        (λ _ m. whole ∙ sym (rw (← subtree-is-range t pre v e far (x .inFile) (λ c a. x .within c (omega arith)) (x .beyond)) (load-above-member t d k v z m)))
+        (λ _ m. omega (arith, load-above-other t d k pre v z m h, ap (sum (linkLoad t d k)) (children-in-subtree t pre v e far (x .inFile) (x .beyond))))
+        refl
+
+    -- the load above v by whether v is a member, stored at v
+    pub node-walked : {loads loads′ : List ℕ} {v e load relief : ℕ} → 1 ≤ v → v < t .count
+        → RowWalked t d k loads v (v + 1) e load relief loads′ → (member : Bool) (above whole : ℕ) → member ≡ has k v
+        → whole ≡ relieved d v + relief → above ≡ cond member whole (d .flow v * thousandths + load)
+        → NodeWalked t d k loads v e above whole (set loads′ v above)
+    node-walked {v = v} {e = e} {load = load} z h w member above whole is-member q p =
+        let first = walked-first (omega (arith, w .ends .from)) (w .walked) in
+        let is : above ≡ linkLoad t d k v = rw is-member at p ∙ load-by-row v e load whole z h (w .ends) (w .loadsAbove) (q ∙ first .relieves) in
+        record { ends = w .ends; loadAbove = is; walked = rw (is, q) first }
+
+    -- ---- all nodes: the row of the server's children, then load 0 stored at node 0
+
+    pub all-walked : {loads loads′ : List ℕ} {e load relief : ℕ} → RowWalked t d k loads 0 1 e load relief loads′
+        → set loads′ 0 0 ≡ sets loads 0 (map (linkLoad t d k) (nodes t))
+    unfolding linkLoad atOrBelow
+    all-walked {e = e} w =
+        let whole : e ≡ t .count = elim (decLt e (t .count)) [
+          | yes l ↦ absurd (not-both (route-ends t e) (w .ends .beyond l))
+          | no l ↦ omega (arith, w .ends .inFile)
+        ] in
+        let all : e - 0 ≡ t .count = omega arith in
+        walked-first (omega (arith, w .ends .from)) (w .walked) .writes ∙ rw all
