@@ -1,0 +1,99 @@
+-- What an answer says of the verdict behind it, and rules 13 and 14 after rules 1 to 11.
+use mathlib.Core.Path.{_≡_, refl}
+use mathlib.Core.Bool.{Bool}
+use mathlib.Core.List.{List}
+use Prim.Native.Nat.{ℕ, _+_, _*_, _≤_, _<_}
+use native.Mathlib.Nat.{mul-le-mul}
+use native.Mathlib.Omega.{arith}
+use lib.Dec.{leb}
+use lib.ListN.{length}
+use borrow.Author.Tests.{leb-true, le-leb, lt-leb}
+use Rattle.model.specs.File.{treeOf, demandOf, mostNodes, mostBudget, mostDepth}
+use Rattle.model.specs.Rules.{Verdict, passed, broken, ask, _then_, fileVerdict, scratchWords, askScratch, askBuffers}
+use Rattle.model.specs.Calls.{answered, refused, answer}
+use Rattle.model.proofs.Verdicts.{ask-passed, then-passed}
+use Rattle.model.proofs.Accepted.{accepted-header, accepted-sound}
+use Rattle.model.proofs.Bounds.{height-bound}
+use Rattle.fields.specs.declared.Tree as code
+use Rattle.tree_file.specs.Checks.{sizesOf}
+use Rattle.lent.specs.Lent.{SizesHold, lentVerdict}
+
+-- ---- what an answer says of its verdict
+
+pub answered-passed : {A : Type 0} {x : A} (v : Verdict) (y : A) → answered x ≡ answer v y → (v ≡ passed) × (x ≡ y)
+answered-passed passed y e = (refl, cc)
+answered-passed (broken q i) y e = let z : _≡_ {A = ℕ} 0 1 = cc in absurd (omega arith)
+
+pub refused-broken : {A : Type 0} {q i : ℕ} (v : Verdict) (y : A) → refused q i ≡ answer v y → v ≡ broken q i
+refused-broken passed y e = let z : _≡_ {A = ℕ} 0 1 = cc in absurd (omega arith)
+refused-broken (broken q i) y e = cc
+
+-- ---- rule 13
+
+-- the product stays small
+pub words-fit : {sizes : code.Tree} → SizesHold sizes
+    → (sizes .nodes * (sizes .height + 1) ≤ mostNodes * (mostDepth + 1))
+    × (sizes .nodes * (sizes .height + 1) * (sizes .budget + 1) ≤ mostNodes * (mostDepth + 1) * (mostBudget + 1))
+words-fit {sizes} hold =
+    let tall : sizes .height + 1 ≤ mostDepth + 1 = omega (arith, hold .height) in
+    let wide : sizes .budget + 1 ≤ mostBudget + 1 = omega (arith, hold .budget) in
+    let lines = mul-le-mul (hold .nodes) tall in
+    (lines, mul-le-mul lines wide)
+
+module _ (file : List ℕ) where
+  accepted-sizes : fileVerdict file ≡ passed → SizesHold (sizesOf file)
+  accepted-sizes ok =
+      let head = accepted-header file ok in
+      record {
+        nodes = head .few;
+        budget = head .budget;
+        height = height-bound (treeOf file) (demandOf file) (accepted-sound file ok);
+      }
+
+  pub answered-sizes : {sizes : code.Tree} → answered sizes ≡ answer (fileVerdict file) (sizesOf file) → SizesHold sizes
+  answered-sizes e = let told = answered-passed (fileVerdict file) (sizesOf file) e in rw (told .1) (accepted-sizes (told .0))
+
+  module _ (sizes : code.Tree) (words asked : ℕ) (e : answered sizes ≡ answer (fileVerdict file) (sizesOf file))
+      (a : asked ≡ sizes .nodes * (sizes .height + 1) * (sizes .budget + 1) + 4 * sizes .nodes) where
+    asked-words : asked ≡ scratchWords file
+    unfolding scratchWords
+    asked-words = rw (answered-passed (fileVerdict file) (sizesOf file) e .1) at a
+
+    pub scratch-held : asked ≤ words → answered sizes ≡ answer (lentVerdict file words) (sizesOf file)
+    unfolding lentVerdict
+    scratch-held h =
+        let told = answered-passed (fileVerdict file) (sizesOf file) e in
+        rw (told .0, le-leb (scratchWords file) words (omega (arith, asked-words)), told .1)
+
+    pub scratch-short : words < asked → refused 13 0 ≡ answer (lentVerdict file words) (sizesOf file)
+    unfolding lentVerdict
+    scratch-short h =
+        rw (answered-passed (fileVerdict file) (sizesOf file) e .0, lt-leb (scratchWords file) words (omega (arith, asked-words)))
+
+  pub scratch-unasked : (words q i : ℕ) → refused q i ≡ answer (fileVerdict file) (sizesOf file)
+      → refused q i ≡ answer (lentVerdict file words) (sizesOf file)
+  unfolding lentVerdict
+  scratch-unasked words q i e = rw (refused-broken (fileVerdict file) (sizesOf file) e)
+
+  pub lent-accepted : (words : ℕ) → lentVerdict file words ≡ passed → (fileVerdict file ≡ passed) × (scratchWords file ≤ words)
+  unfolding lentVerdict
+  lent-accepted words e =
+      let both = then-passed (fileVerdict file) (ask 13 0 (leb (scratchWords file) words)) e in
+      (both .0, leb-true (scratchWords file) words (ask-passed 13 0 _ (both .1)))
+
+  pub lent-sizes : (words : ℕ) {sizes : code.Tree} → answered sizes ≡ answer (lentVerdict file words) (sizesOf file) → SizesHold sizes
+  lent-sizes words e =
+      let told = answered-passed (lentVerdict file words) (sizesOf file) e in
+      rw (told .1) (accepted-sizes (lent-accepted words (told .0) .0))
+
+-- ---- rule 14
+
+then-grouped : (a b c : Verdict) → (a then b then c) ≡ ((a then b) then c)
+then-grouped passed b c = refl
+then-grouped (broken q i) b c = refl
+
+-- the verdict of a call with lent scratch and buffers
+pub then-buffers : (file scratch : List ℕ) (long : Bool)
+    → (fileVerdict file then askScratch file scratch then askBuffers long) ≡ (lentVerdict file (length scratch) then askBuffers long)
+unfolding lentVerdict
+then-buffers file scratch long = then-grouped (fileVerdict file) (askScratch file scratch) (askBuffers long)

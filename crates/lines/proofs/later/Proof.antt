@@ -1,0 +1,63 @@
+-- `later`: how many of a row's m caches are among the later siblings: the least number at which the split is least.
+use mathlib.Core.Logic.{⊎-elim}
+use Prim.Native.Nat.{_+_, _-_, _≤_}
+use native.Mathlib.Omega.{arith}
+use borrow.Author.Needs.{needs}
+use Rattle.lines.specs.Line.{lineSplit, lineLater}
+use Rattle.lines.proofs.First.{FirstBefore, first-begins, first-lowers, first-stays, first-ends}
+use Rattle.lines.proofs.later.Statement.{statement}
+use Rattle.lines.proofs.later.Tie as tie
+
+abbrev Inv-loop : tie.InvT-loop
+Inv-loop taken spare rest member other m first₀ least₀ r₀ first least r =
+    (r ≤ m + 1) × FirstBefore (lineSplit taken spare rest (member .0) (other .0) m) r first (least .0)
+
+abbrev μ-loop : tie.MeasureT-loop
+μ-loop taken spare rest member other m first₀ least₀ r₀ first least r = m + 1 - r
+
+split-requires : tie.Need-split-requires Inv-loop μ-loop
+split-requires c κs = (c .before .before .before .pre, omega arith)
+
+loop-holds : tie.Need-loop-holds Inv-loop μ-loop
+loop-holds c = (omega arith, first-begins _ (c .split .ensures))
+
+split-requires-2 : tie.Need-split-requires-2 Inv-loop μ-loop
+split-requires-2 c κs = (c .before .before .before .before .before .before .pre, omega arith)
+
+is-less-requires : tie.Need-is-less-requires Inv-loop μ-loop
+is-less-requires c κs = search needs
+
+add-r : tie.Need-add-r Inv-loop μ-loop
+add-r c = search needs
+
+loop-less : tie.Need-loop-less Inv-loop μ-loop
+loop-less c = search needs
+
+loop-again : tie.Need-loop-again Inv-loop μ-loop
+loop-again c =
+    let l = c .before .before .before .before .loop in
+    let s = c .before .before .split2 .ensures in
+    let t = c .before .is-less .ensures in (
+      omega arith,
+      ⊎-elim (λ w. rw (w .1, w .2) (first-lowers _ (l .inv .1) s t (w .0 .taken)))
+          (λ w. rw (w .1, w .2) (first-stays _ (l .inv .1) s t (w .0 .left))) (c .if1 .came),
+    )
+
+returns : tie.Need-returns Inv-loop μ-loop
+unfolding lineLater
+returns c = first-ends _ _ (c .before .loop .inv .1) (omega arith)
+
+pub later-spec : {M : Type 1} → statement M
+later-spec =
+    tie.close
+    (tie.spec
+    Inv-loop
+    μ-loop
+    split-requires
+    loop-holds
+    split-requires-2
+    is-less-requires
+    add-r
+    loop-less
+    loop-again
+    returns)

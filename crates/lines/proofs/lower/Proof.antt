@@ -1,0 +1,97 @@
+-- `lower`: lowers a row's line to the splits with r caches among the later siblings, which then cost `rest`, and fewer than ..
+use mathlib.Core.Path.{_≡_, refl}
+use Prim.Native.Nat.{_-_, _≤_}
+use native.Mathlib.Omega.{arith}
+use lib.ListN.{length, length-set}
+use borrow.Author.Needs.{needs}
+use Rattle.best_rows.specs.Best.{cap}
+use Rattle.lines.specs.Line.{Lowered}
+use Rattle.lines.proofs.Row.{lower-begins, lower-turns}
+use Rattle.lines.proofs.lower.Statement.{statement}
+use Rattle.lines.proofs.lower.Tie as tie
+
+abbrev Inv-loop : tie.InvT-loop
+Inv-loop line₀ node end r rest n₀ line n =
+    (n ≤ end) × (length line ≡ length line₀) × Lowered line₀ node n r (rest .0) line
+
+abbrev μ-loop : tie.MeasureT-loop
+μ-loop line₀ node end r rest n₀ line n = end - n
+
+loop-holds : tie.Need-loop-holds Inv-loop μ-loop
+loop-holds c = (omega arith, refl, lower-begins _ _ _ _)
+
+add-m : tie.Need-add-m Inv-loop μ-loop
+add-m c = omega arith
+
+mul-t10 : tie.Need-mul-t10 Inv-loop μ-loop
+mul-t10 c = omega arith
+
+slice-read-t12 : tie.Need-slice-read-t12 Inv-loop μ-loop
+slice-read-t12 c = omega arith
+
+mul-t15 : tie.Need-mul-t15 Inv-loop μ-loop
+mul-t15 c = let s = c .before .before .before .before .before in omega (arith, s .pre .1 .long)
+
+shared-slice-read-t17 : tie.Need-shared-slice-read-t17 Inv-loop μ-loop
+shared-slice-read-t17 c = let s = c .before .before .before .before .before .before in omega (arith, s .pre .1 .long)
+
+plus-requires : tie.Need-plus-requires Inv-loop μ-loop
+unfolding cap
+plus-requires c κs =
+    let s = c .before .before .before .before .before .before in
+    omega (arith, s .pre .1 .within (c .before .before .before .loop .n) (omega arith))
+
+lesser-requires : tie.Need-lesser-requires Inv-loop μ-loop
+lesser-requires c κs = search needs
+
+mul-line : tie.Need-mul-line Inv-loop μ-loop
+mul-line c = omega arith
+
+slice-write-line : tie.Need-slice-write-line Inv-loop μ-loop
+slice-write-line c = omega arith
+
+add-n : tie.Need-add-n Inv-loop μ-loop
+add-n c = search needs
+
+loop-less : tie.Need-loop-less Inv-loop μ-loop
+loop-less c = search needs
+
+loop-again : tie.Need-loop-again Inv-loop μ-loop
+loop-again c =
+    let l = c .before .before .before .before .before .loop in
+    let a = c .before .before .before .before .before .before .before .before .args in (
+      omega arith,
+      simp length-set (l .inv .1),
+      lower-turns _ (a .node .now) (a .r) (a .rest .0) (l .n) (omega arith) (l .inv .2) (c .before .plus .ensures) (c .lesser .ensures),
+    )
+
+same-length : tie.Need-same-length Inv-loop μ-loop
+same-length c = search needs
+
+returns : tie.Need-returns Inv-loop μ-loop
+returns c =
+    let s = c .before .before .before .before in
+    let all : c .before .loop .n ≡ s .args .end = omega arith in
+    rw (← all) (c .before .loop .inv .2)
+
+pub lower-spec : {M : Type 1} → statement M
+lower-spec =
+    tie.close
+    (tie.spec
+    Inv-loop
+    μ-loop
+    loop-holds
+    add-m
+    mul-t10
+    slice-read-t12
+    mul-t15
+    shared-slice-read-t17
+    plus-requires
+    lesser-requires
+    mul-line
+    slice-write-line
+    add-n
+    loop-less
+    loop-again
+    same-length
+    returns)

@@ -1,0 +1,97 @@
+-- One line of the plan's table: entry n is the least of a row of siblings with n caches, from the lines of its parts.
+use mathlib.Core.Path.{_≡_}
+use mathlib.Core.Bool.{Bool, cond}
+use mathlib.Core.List.{List}
+use mathlib.Core.Logic.{_⊎_}
+use Prim.Native.Nat.{ℕ, zero, suc, _+_, _-_, _≤_, _<_, min}
+use lib.ListN.{length, getD}
+use Rattle.laws.specs.Lists.{bit}
+use Rattle.model.specs.File.{mostBudget}
+use Rattle.best_rows.specs.Least.{firstLeast, low}
+use Rattle.best_rows.specs.Best.{cap, side, turn, nodeBest, split, cell}
+use Rattle.best_rows.specs.BestAt.{prefer}
+
+-- the most entries that a line has: counts from 0 to the largest budget
+abbrev pub mostWidth : ℕ
+mostWidth = mostBudget + 1
+
+-- a line with entries for the counts below w, none above `most`
+pub record Line (w most : ℕ) (l : List ℕ) : Type 0 where
+  pub long : w ≤ length l
+  pub within : (n : ℕ) → n < w → getD l n 0 ≤ most
+
+-- from e on no count below w has a choice
+abbrev pub NoneFrom : ℕ → ℕ → List ℕ → Type 0
+NoneFrom e w l = (n : ℕ) → e ≤ n → n < w → cap ≤ getD l n 0
+
+-- ---- a node that pays `member` as a cache, the line of its children then being `taken`, and else `other`, it being `spare`
+
+pub record NodeParts (w : ℕ) (taken spare : List ℕ) (member other : ℕ) : Type 0 where
+  pub taken-line : Line w cap taken
+  pub spare-line : Line w cap spare
+  pub pays : (member ≤ cap) × (other ≤ cap)
+
+-- what the node pays, by whether it is a cache
+abbrev pub pay : ℕ → ℕ → Bool → ℕ
+pay member other u = cond u member other
+
+-- the least of its children with n caches, by whether the node is a cache
+abbrev pub children : List ℕ → List ℕ → Bool → ℕ → ℕ
+children taken spare u n = getD (cond u taken spare) n 0
+
+module _ (taken spare : List ℕ) (member other : ℕ) where
+  -- the node and its children with n caches, by whether the node is one of them
+  abbrev pub lineSide : ℕ → Bool → ℕ
+  lineSide = side bit (pay member other) (children taken spare)
+
+  -- is the node one of these n caches?
+  unfoldable pub lineTakes : ℕ → Bool
+  lineTakes = turn bit prefer (pay member other) (children taken spare)
+
+  -- the least of the node and its children with n caches
+  unfoldable pub lineNode : ℕ → ℕ
+  lineNode = nodeBest bit prefer (pay member other) (children taken spare)
+
+-- ---- a row that begins with this node, `rest` being the line of its later siblings
+
+pub record LineParts (w : ℕ) (taken spare rest : List ℕ) (member other : ℕ) : Type 0 where
+  pub node-parts : NodeParts w taken spare member other
+  pub rest-line : Line w cap rest
+
+module _ (taken spare rest : List ℕ) (member other : ℕ) where
+  -- the row with m caches, of which r are among the later siblings
+  abbrev pub lineSplit : ℕ → ℕ → ℕ
+  lineSplit = split bit prefer (pay member other) (children taken spare) (λ r. getD rest r 0)
+
+  -- how many of the m caches are among the later siblings
+  unfoldable pub lineLater : ℕ → ℕ
+  lineLater m = firstLeast (lineSplit m) m
+
+  -- the least of the row with m caches
+  unfoldable pub lineCell : ℕ → ℕ
+  lineCell = cell bit prefer (pay member other) (children taken spare) (λ r. getD rest r 0)
+
+-- ---- the same row from the line of its first node, whose entries may be above the cap
+
+pub record RowParts (w : ℕ) (node rest : List ℕ) : Type 0 where
+  pub node-line : Line w (cap + cap) node
+  pub rest-line : Line w cap rest
+
+-- the row with m caches, of which r are among the later siblings
+abbrev pub rowSplit : List ℕ → List ℕ → ℕ → ℕ → ℕ
+rowSplit node rest m r = getD node (m - r) 0 + getD rest r 0
+
+-- the least of the row with m caches
+unfoldable pub rowCell : List ℕ → List ℕ → ℕ → ℕ
+rowCell node rest m = low cap (rowSplit node rest m) (m + 1)
+
+-- `after` is `before`, lowered to the splits with r caches among the later siblings, which then cost x, and fewer than `end`
+-- at the node
+pub record Lowered (before node : List ℕ) (end r x : ℕ) (after : List ℕ) : Type 0 where
+  pub inside : (n : ℕ) → n < end → getD after (r + n) 0 ≡ min (getD before (r + n) 0) (getD node n 0 + x)
+  pub outside : (m : ℕ) → (m < r) ⊎ (r + end ≤ m) → getD after m 0 ≡ getD before m 0
+
+-- the least of the empty row with m caches
+unfoldable pub emptyCell : ℕ → ℕ
+emptyCell zero = 0
+emptyCell (suc m) = cap

@@ -1,0 +1,218 @@
+// One line of the plan's table: for each number of caches the least that a row of siblings costs, made from three other lines.
+ghost use mathlib.Core.Path.{_≡_};
+ghost use mathlib.Core.Bool.{true, false};
+ghost use mathlib.Core.List.{map};
+ghost use Prim.Native.Nat.{_+_, _-_, _≤_, _<_, min};
+ghost use lib.ListN.{length, take};
+ghost use lib.Seq.{sets};
+ghost use Rattle.laws.specs.Lists.{range};
+ghost use Rattle.best_rows.specs.Best.{cap};
+ghost use Rattle.lines.specs.Line.{mostWidth, Line, NoneFrom, NodeParts, LineParts, RowParts, lineSide, lineTakes, lineNode, lineSplit, lineLater, lineCell, rowCell, Lowered, emptyCell};
+use units::Total;
+
+// The most entries of a line: budgets from 0 to 32.
+pub const WIDTH: usize = 33;
+
+// What a node and its children cost, with the node as a cache and without.
+struct Sides {
+    member: Total,
+    other: Total,
+}
+
+// A node with n caches at or below it, by whether it is one of them.
+fn sides_of(taken: &[u64], spare: &[u64], member: Total, other: Total, n: usize) -> Sides
+    requires { ⌜ NodeParts (n + 1) (now taken) (now spare) (member .0) (other .0) ⌝ }
+    ensures { λ r. ⌜ r .member .0 ≡ lineSide (now (taken .entry)) (now (spare .entry)) (member .0) (other .0) n true ⌝ }
+    ensures { λ r. ⌜ r .other .0 ≡ lineSide (now (taken .entry)) (now (spare .entry)) (member .0) (other .0) n false ⌝ }
+{
+    let without = other.plus(Total(spare[n]));
+    if n == 0 {
+        return Sides {
+            member: Total::CAP,
+            other: without,
+        };
+    }
+    Sides {
+        member: member.plus(Total(taken[n - 1])),
+        other: without,
+    }
+}
+
+// The least of a node and its children with n caches.
+fn node_best(taken: &[u64], spare: &[u64], member: Total, other: Total, n: usize) -> Total
+    requires { ⌜ NodeParts (n + 1) (now taken) (now spare) (member .0) (other .0) ⌝ }
+    ensures { λ r. ⌜ r .0 ≡ lineNode (now (taken .entry)) (now (spare .entry)) (member .0) (other .0) n ⌝ }
+{
+    let sides = sides_of(taken, spare, member, other, n);
+    sides.member.lesser(sides.other)
+}
+
+// Whether the node itself is one of its n caches: it is, unless the other side costs less.
+pub fn takes(taken: &[u64], spare: &[u64], member: Total, other: Total, n: usize) -> bool
+    requires { ⌜ NodeParts (n + 1) (now taken) (now spare) (member .0) (other .0) ⌝ }
+    ensures { λ r. ⌜ r ≡ lineTakes (now (taken .entry)) (now (spare .entry)) (member .0) (other .0) n ⌝ }
+{
+    let sides = sides_of(taken, spare, member, other, n);
+    !sides.other.is_less(sides.member)
+}
+
+// A node's line.
+fn node_line(taken: &[u64], spare: &[u64], member: Total, other: Total, w: usize) -> [u64; WIDTH]
+    requires { ⌜ w ≤ mostWidth ⌝ }
+    requires { ⌜ NodeParts w (now taken) (now spare) (member .0) (other .0) ⌝ }
+    ensures { λ r. ⌜ take w r ≡ map (lineNode (now (taken .entry)) (now (spare .entry)) (member .0) (other .0)) (range 0 w) ⌝ }
+{
+    let mut line = [0u64; WIDTH];
+    let mut n = 0;
+    while n < w {
+        line[n] = node_best(taken, spare, member, other, n).0;
+        n += 1;
+    }
+    line
+}
+
+// The end of the counts that have a choice.
+fn feasible(line: &[u64], w: usize) -> usize
+    requires { ⌜ w ≤ length (now line) ⌝ }
+    ensures { λ r. ⌜ r ≤ w ⌝ }
+    ensures { λ r. ⌜ NoneFrom r w (now (line .entry)) ⌝ }
+{
+    let mut end = w;
+    while 0 < end {
+        let last = end - 1;
+        if Total(line[last]).is_less(Total::CAP) {
+            return end;
+        }
+        end = last;
+    }
+    end
+}
+
+fn lesser(a: usize, b: usize) -> usize
+    ensures { λ r. ⌜ r ≡ min a b ⌝ }
+{
+    if b < a { b } else { a }
+}
+
+// Lowers a row's line to the splits with r caches among the later siblings, which then cost `rest`, and fewer than `end` at the
+// node.
+fn lower(line: &mut [u64], node: &[u64], end: usize, r: usize, rest: Total)
+    requires { ⌜ (r + end ≤ length (now line)) × (rest .0 ≤ cap) ⌝ }
+    requires { ⌜ Line end (cap + cap) (now node) ⌝ }
+    ensures { λ _. ⌜ Lowered (now (line .entry)) (now (node .entry)) end r (rest .0) (now (line .exit)) ⌝ }
+{
+    let mut n = 0;
+    while n < end {
+        let m = r + n;
+        line[m] = Total(line[m]).lesser(Total(node[n]).plus(rest)).0;
+        n += 1;
+    }
+}
+
+// A row's line, from that of its first node and that of its later siblings.
+fn row_line(node: &[u64], rest: &[u64], w: usize) -> [u64; WIDTH]
+    requires { ⌜ w ≤ mostWidth ⌝ }
+    requires { ⌜ RowParts w (now node) (now rest) ⌝ }
+    ensures { λ r. ⌜ take w r ≡ map (rowCell (now (node .entry)) (now (rest .entry))) (range 0 w) ⌝ }
+{
+    let node_end = feasible(node, w);
+    let rest_end = feasible(rest, w);
+    let mut line = [Total::CAP.0; WIDTH];
+    let mut r = 0;
+    while r < rest_end {
+        lower(&mut line, node, lesser(node_end, w - r), r, Total(rest[r]));
+        r += 1;
+    }
+    line
+}
+
+// A row's line, of its first node's children with the node as a cache and without, and of its later siblings.
+pub fn line_of(
+    taken: &[u64],
+    spare: &[u64],
+    rest: &[u64],
+    member: Total,
+    other: Total,
+    w: usize,
+) -> [u64; WIDTH]
+    requires { ⌜ w ≤ mostWidth ⌝ }
+    requires { ⌜ LineParts w (now taken) (now spare) (now rest) (member .0) (other .0) ⌝ }
+    ensures { λ r. ⌜ take w r ≡ map (lineCell (now (taken .entry)) (now (spare .entry)) (now (rest .entry)) (member .0) (other .0)) (range 0 w) ⌝ }
+{
+    let node = node_line(taken, spare, member, other, w);
+    row_line(&node, rest, w)
+}
+
+// Stores a line of w entries from `at` on.
+pub fn put(s: &mut [u64], at: usize, w: usize, line: [u64; WIDTH])
+    requires { ⌜ (w ≤ mostWidth) × (at + w ≤ length (now s)) ⌝ }
+    ensures { λ _. ⌜ now (s .exit) ≡ sets (now (s .entry)) at (take w line) ⌝ }
+{
+    let mut i = 0;
+    while i < w {
+        s[at + i] = line[i];
+        i += 1;
+    }
+}
+
+fn empty_entry(m: usize) -> Total
+    ensures { λ r. ⌜ r .0 ≡ emptyCell m ⌝ }
+{
+    if m == 0 { Total::ZERO } else { Total::CAP }
+}
+
+// Stores the line of the empty row at `at`.
+pub fn empty_line(s: &mut [u64], at: usize, w: usize)
+    requires { ⌜ at + w ≤ length (now s) ⌝ }
+    ensures { λ _. ⌜ now (s .exit) ≡ sets (now (s .entry)) at (map emptyCell (range 0 w)) ⌝ }
+{
+    let mut i = 0;
+    while i < w {
+        s[at + i] = empty_entry(i).0;
+        i += 1;
+    }
+}
+
+// A row with m caches, of which r are among the later siblings.
+fn split(
+    taken: &[u64],
+    spare: &[u64],
+    rest: &[u64],
+    member: Total,
+    other: Total,
+    m: usize,
+    r: usize,
+) -> Total
+    requires { ⌜ LineParts (m + 1) (now taken) (now spare) (now rest) (member .0) (other .0) ⌝ }
+    requires { ⌜ r ≤ m ⌝ }
+    ensures { λ s. ⌜ s .0 ≡ lineSplit (now (taken .entry)) (now (spare .entry)) (now (rest .entry)) (member .0) (other .0) m r ⌝ }
+{
+    let here = m - r;
+    node_best(taken, spare, member, other, here).plus(Total(rest[r]))
+}
+
+// How many of a row's m caches are among the later siblings: the least number at which the split is least.
+pub fn later(
+    taken: &[u64],
+    spare: &[u64],
+    rest: &[u64],
+    member: Total,
+    other: Total,
+    m: usize,
+) -> usize
+    requires { ⌜ LineParts (m + 1) (now taken) (now spare) (now rest) (member .0) (other .0) ⌝ }
+    ensures { λ r. ⌜ r ≡ lineLater (now (taken .entry)) (now (spare .entry)) (now (rest .entry)) (member .0) (other .0) m ⌝ }
+{
+    let mut first = 0;
+    let mut least = split(taken, spare, rest, member, other, m, 0);
+    let mut r = 1;
+    while r <= m {
+        let sum = split(taken, spare, rest, member, other, m, r);
+        if sum.is_less(least) {
+            first = r;
+            least = sum;
+        }
+        r += 1;
+    }
+    first
+}

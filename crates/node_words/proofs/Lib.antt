@@ -1,0 +1,4 @@
+pub mod Ancestors
+pub mod Words
+mod Measures
+mod Links

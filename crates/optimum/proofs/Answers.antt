@@ -1,0 +1,103 @@
+-- The plan call, answer by answer: a refusal writes nothing, and what is written is the plan.
+use mathlib.Core.Path.{_≡_, refl, sym, _∙_}
+use mathlib.Core.Bool.{Bool, true, false, _&&_}
+use mathlib.Core.List.{List}
+use Prim.Native.Nat.{ℕ, suc, _+_, _*_, _≤_, _<_}
+use native.Mathlib.Nat.{mul-le-mul}
+use native.Mathlib.Numerals.{add-one}
+use native.Mathlib.Omega.{arith}
+use lib.Dec.{leb}
+use lib.ListN.{length}
+use lib.Seq.{sets}
+use borrow.Author.Tests.{leb-true, le-leb, lt-leb}
+use Rattle.laws.specs.Fronts.{FrontOnly}
+use Rattle.laws.proofs.Bools.{both}
+use Rattle.laws.proofs.Stores.{sets-front}
+use Rattle.model.specs.File.{budgetOf, mostBudget}
+use Rattle.model.specs.Rules.{passed, broken, _then_, fileVerdict, scratchWords, askBuffers}
+use Rattle.model.specs.Calls.{answered, refused, answer, planTotals, planRows, planBuffersLong, planVerdict, PlanCall}
+use Rattle.model.proofs.Accepted.{accepted-header}
+use Rattle.model.proofs.Written.{length-plan-totals, length-plan-rows}
+use Rattle.fields.specs.declared.Tree as code
+use Rattle.tree_file.specs.Checks.{sizesOf}
+use Rattle.lent.specs.Lent.{lentVerdict}
+use Rattle.lent.proofs.Asked.{answered-passed, refused-broken, lent-accepted, then-buffers}
+use Rattle.table.specs.Table.{TableRoom}
+use Rattle.optimum.specs.Budgets.{Buffers}
+
+-- ---- what the rules before rule 14 say, where they hold
+
+module _ (file scratch : List ℕ) {sizes : code.Tree} (e : answered sizes ≡ answer (lentVerdict file (length scratch)) (sizesOf file)) where
+  told : (lentVerdict file (length scratch) ≡ passed) × (sizes ≡ sizesOf file)
+  told = answered-passed (lentVerdict file (length scratch)) (sizesOf file) e
+
+  accepted : fileVerdict file ≡ passed
+  accepted = lent-accepted file (length scratch) (told .0) .0
+
+  pub plan-room : TableRoom file sizes scratch
+  plan-room = record { accepted = accepted; of-file = told .1; room = lent-accepted file (length scratch) (told .0) .1 }
+
+  pub plan-budget-fits : sizes .budget ≤ mostBudget
+  plan-budget-fits = rw (told .1) (accepted-header file accepted .budget)
+
+-- ---- each answer
+
+module _ (file scratch totals rows : List ℕ) where
+  verdict-is : planVerdict file scratch totals rows ≡ (lentVerdict file (length scratch) then askBuffers (planBuffersLong file totals rows))
+  unfolding planVerdict
+  verdict-is = then-buffers file scratch (planBuffersLong file totals rows)
+
+  refused-whole : {q i : ℕ} → broken q i ≡ planVerdict file scratch totals rows
+      → PlanCall file scratch totals rows (broken q i) scratch totals rows
+  refused-whole e = record { verdict = e; scratchAfter = refl; totalsAfter = refl; rowsAfter = refl }
+
+  -- the rules before rule 14 refuse
+  pub plan-refused : {q i : ℕ} → refused q i ≡ answer (lentVerdict file (length scratch)) (sizesOf file)
+      → PlanCall file scratch totals rows (broken q i) scratch totals rows
+  plan-refused e = refused-whole (sym (verdict-is ∙ rw (refused-broken (lentVerdict file (length scratch)) (sizesOf file) e)))
+
+  module _ {sizes : code.Tree} (e : answered sizes ≡ answer (lentVerdict file (length scratch)) (sizesOf file)) where
+    sized : (lentVerdict file (length scratch) ≡ passed) × (sizes ≡ sizesOf file)
+    sized = told file scratch e
+
+    -- rule 14, as it is asked with the sizes found
+    abbrev bothLong : Bool
+    bothLong = leb (suc (sizes .budget)) (length totals) && leb (suc (sizes .budget) * sizes .budget) (length rows)
+
+    pub plan-short : bothLong ≡ false → PlanCall file scratch totals rows (broken 14 0) scratch totals rows
+    plan-short h = refused-whole (sym (verdict-is ∙ rw (sized .0, rw (sized .1) at h)))
+
+    module _ (h : bothLong ≡ true) where
+      long : planBuffersLong file totals rows ≡ true
+      long = rw (sized .1) at h
+
+      pub plan-long : Buffers file totals rows
+      plan-long =
+          let k = budgetOf file in
+          let l = both (leb (suc k) (length totals)) (leb (suc k * k) (length rows)) long in
+          record { totalsLong = rw (add-one k) (leb-true _ _ (l .0)); rowsLong = rw (add-one k) (leb-true _ _ (l .1)) }
+
+      -- all rules hold
+      pub plan-written : {scratch′ totals′ rows′ : List ℕ} → FrontOnly (scratchWords file) scratch scratch′
+          → totals′ ≡ sets totals 0 (planTotals file) → rows′ ≡ sets rows 0 (planRows file)
+          → PlanCall file scratch totals rows passed scratch′ totals′ rows′
+      plan-written s t r =
+          let k = add-one (budgetOf file) in
+          record {
+            verdict = sym (verdict-is ∙ rw (sized .0, long));
+            scratchAfter = (s .long, s .rest);
+            totalsAfter = t ∙ sets-front totals (planTotals file) (omega (arith, length-plan-totals file, plan-long .totalsLong));
+            rowsAfter = r ∙ sets-front rows (planRows file) (omega (arith, length-plan-rows file, rw k at (plan-long .rowsLong)));
+          }
+
+-- ---- rule 14, as it is asked
+
+module _ (k totals rows : ℕ) where
+  pub totals-short : totals < k + 1 → false ≡ (leb (suc k) totals && leb (suc k * k) rows)
+  totals-short h = rw (lt-leb (suc k) totals (omega arith))
+
+  pub totals-long : k + 1 ≤ totals → leb ((k + 1) * k) rows ≡ (leb (suc k) totals && leb (suc k * k) rows)
+  totals-long h = rw (le-leb (suc k) totals (omega arith), add-one k)
+
+pub rows-small : {k : ℕ} → k ≤ mostBudget → (k + 1) * k ≤ (mostBudget + 1) * mostBudget
+rows-small h = mul-le-mul {n₂ = mostBudget + 1} (omega arith) h

@@ -1,0 +1,78 @@
+-- The caches of a row, node by node: what each part of it can have, and that the parts together are the row's.
+use mathlib.Core.Path.{_≡_, refl, _∙_}
+use mathlib.Core.Bool.{Bool, true, false, cond}
+use mathlib.Core.List.{List, [], _∷_, _++_}
+use Prim.Native.Nat.{ℕ, zero, suc, _+_, _-_, _≤_, _<_}
+use native.Mathlib.Omega.{arith}
+use lib.ListN.{length, length-append}
+use lib.Seq.{sets}
+use Rattle.laws.proofs.Stores.{sets-append}
+use Rattle.model.specs.File.{Tree, Demand}
+use Rattle.best_rows.specs.Rows.{ifMember}
+use Rattle.best_rows.specs.Best.{cap}
+use Rattle.best_rows.specs.TreeRows.{firstChild, nextSibling}
+use Rattle.best_rows.specs.BestAt.{one, bestAt, bestNodes, nodeBestAt, takesNode, splitAt, laterAt}
+use Rattle.best_rows.proofs.Table.{length-best-nodes, best-at-none-over, node-best-attained, best-nodes-node, later-at-attains}
+use Rattle.optimum.specs.Walk.{nodesFrom}
+
+module _ (t : Tree) (d : Demand) where
+  -- a row that has a cache has a node
+  pub row-has-node : (x c m : ℕ) → 0 < m → bestAt t d x c m < cap → 0 < x
+  row-has-node zero c zero h k = absurd (omega arith)
+  row-has-node zero c (suc m) h k = absurd (omega (arith, best-at-none-over t d c m))
+  row-has-node (suc x) c m h k = omega arith
+
+  -- no caches are no nodes
+  pub row-without : (x c : ℕ) → bestAt t d x c 0 < cap → bestNodes t d x c 0 ≡ []
+  row-without x c h = none (bestNodes t d x c 0) (length-best-nodes t d x c 0 h)
+    where
+      none : (l : List ℕ) → length l ≡ 0 → l ≡ []
+      none [] e = refl
+      none (y ∷ l) e = absurd (omega arith)
+
+  module _ (x c : ℕ) where
+    module _ (n : ℕ) (h : nodeBestAt t d x c n < cap) where
+      abbrev taken : Bool
+      taken = takesNode t d x c n
+
+      -- with its own choice the children's row can have the caches left
+      pub children-attained : (one x taken ≤ n) × (bestAt t d (firstChild t x) (cond taken x c) (n - one x taken) < cap)
+      children-attained = let a = node-best-attained t d x c n h in (a .0, omega (arith, a .1))
+
+      length-nodes-from : length (nodesFrom t d x c n) ≡ n
+      unfolding nodesFrom
+      length-nodes-from =
+          let a = children-attained in
+          length-append (ifMember taken x) _ ∙ omega (arith, length-member taken, length-best-nodes t d _ _ _ (a .1), a .0)
+        where
+          length-member : (u : Bool) → length (ifMember u x) ≡ one x u
+          length-member true = refl
+          length-member false = refl
+
+    module _ (m : ℕ) (some : 0 < x) (fits : x < t .count) (h : bestAt t d x c m < cap) where
+      abbrev later : ℕ
+      later = laterAt t d x c m
+
+      -- no more than all are among the later siblings
+      pub later-within : later ≤ m
+      later-within = later-at-attains t d x some fits c m h .0
+
+      -- the first node and the later siblings can have theirs
+      pub row-attained : (nodeBestAt t d x c (m - later) < cap) × (bestAt t d (nextSibling t x) c later < cap)
+      unfolding splitAt
+      row-attained = let a = later-at-attains t d x some fits c m h .1 in (omega arith, omega arith)
+
+      -- the row's caches are the first node's, then the later siblings'
+      row-nodes : bestNodes t d x c m ≡ nodesFrom t d x c (m - later) ++ bestNodes t d (nextSibling t x) c later
+      unfolding nodesFrom
+      row-nodes = best-nodes-node t d x some fits c m
+
+      pub row-stores : (l : List ℕ) (at : ℕ)
+          → sets l at (bestNodes t d x c m)
+          ≡ sets (sets l at (nodesFrom t d x c (m - later))) (at + (m - later)) (bestNodes t d (nextSibling t x) c later)
+      row-stores l at =
+          rw (
+            row-nodes,
+            sets-append l at (nodesFrom t d x c (m - later)) (bestNodes t d (nextSibling t x) c later),
+            length-nodes-from (m - later) (row-attained .0),
+          )

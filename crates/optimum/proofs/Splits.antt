@@ -1,0 +1,70 @@
+-- How a row's caches split, as it is read from the lines of the first node's children and later siblings.
+use mathlib.Core.Path.{_≡_, refl, sym, _∙_}
+use mathlib.Core.Bool.{Bool}
+use mathlib.Core.List.{List}
+use Prim.Native.Nat.{ℕ, _+_, _-_, _≤_, _<_}
+use native.Mathlib.Omega.{arith}
+use Rattle.model.specs.File.{treeOf, demandOf}
+use Rattle.model.specs.Bill.{price}
+use Rattle.fields.specs.declared.Tree as code
+use Rattle.best_rows.specs.Best.{nodeBest, split}
+use Rattle.best_rows.specs.TreeRows.{nextSibling}
+use Rattle.best_rows.specs.BestAt.{site, bestAt, childrenAt, nodeBestAt, takesNode, splitAt, laterAt}
+use Rattle.node_words.specs.Words.{wordOf, depthWord, HasNode}
+use Rattle.lines.specs.Line.{LineParts, NodeParts, lineTakes, lineLater}
+use Rattle.lines.proofs.Fewer.{line-parts-fewer, parts-fewer}
+use Rattle.lines.proofs.Known.{Known, known-later, known-takes}
+use Rattle.table.specs.Table.{width, Served}
+use Rattle.table.proofs.Lines.{parts-read}
+use Rattle.optimum.specs.Walk.{RowToSplit}
+use Rattle.optimum.proofs.Served.{served-from-above}
+use Rattle.optimum.proofs.Nodes.{later-within}
+use Rattle.optimum.proofs.Walk.{table-sound, table-has-node, table-budget}
+
+module _ {file : List ℕ} {sizes : code.Tree} {s : List ℕ} {x server m : ℕ} (r : RowToSplit file sizes s x server m) where
+  pub server-stands : HasNode s server
+  server-stands = table-has-node (r .table) (r .row .served .above)
+
+  -- at its serving node's depth, as it is read
+  pub split-served : {above : ℕ} → above ≡ wordOf s server depthWord → Served (treeOf file) x above server
+  split-served e =
+      let t = treeOf file in
+      let way = served-from-above t (table-sound (r .table) .preorder) x server (r .site) (r .row .served) in
+      rw (e ∙ r .table .ready .words .depth server (r .row .served .above))
+      (record { site = r .site; node = r .row .served .node; above = way .0; server = sym (way .1) })
+
+  split-within : m < width sizes
+  split-within = omega (arith, table-budget (r .table), r .row .within)
+
+  module _ {above member other : ℕ} {taken spare rest : List ℕ} (at : Served (treeOf file) x above server)
+      (known : Known (width sizes) (childrenAt (treeOf file) (demandOf file) x server) (bestAt (treeOf file) (demandOf file) (nextSibling (treeOf file) x) server) taken spare rest)
+      (p : member ≡ price (treeOf file) (demandOf file) x x) (q : other ≡ price (treeOf file) (demandOf file) x server) where
+    -- the lines answer for all m caches
+    pub split-parts : LineParts (m + 1) taken spare rest member other
+    split-parts =
+        line-parts-fewer (m + 1) (width sizes) (omega (arith, split-within))
+        (parts-read (treeOf file) (demandOf file) (width sizes) (table-sound (r .table)) at known refl p q)
+
+    module _ {later : ℕ} (e : later ≡ lineLater taken spare rest member other m) where
+      -- what is read is the split, and then the node's own choice
+      pub split-later : later ≡ laterAt (treeOf file) (demandOf file) x server m
+      unfolding laterAt splitAt nodeBestAt nodeBest split
+      split-later =
+          let t = treeOf file in
+          let d = demandOf file in
+          rw (p, q) at e ∙ known-later (width sizes) (site t d x .pay server) (childrenAt t d x server) (bestAt t d (nextSibling t x) server) taken spare rest known m split-within
+
+      pub split-fits : later ≤ m
+      split-fits = rw split-later (later-within (treeOf file) (demandOf file) x server m (r .site) (r .row .served .node) (r .row .attained))
+
+      pub split-node-parts : NodeParts (m - later + 1) taken spare member other
+      split-node-parts = parts-fewer (m - later + 1) (m + 1) (omega arith) (split-parts .node-parts)
+
+      pub split-member : {u : Bool} → u ≡ lineTakes taken spare member other (m - later)
+          → u ≡ takesNode (treeOf file) (demandOf file) x server (m - later)
+      unfolding takesNode
+      split-member f =
+          let t = treeOf file in
+          let d = demandOf file in
+          let within : m - later < width sizes = omega (arith, split-within) in
+          rw (p, q) at f ∙ known-takes (width sizes) (site t d x .pay server) (childrenAt t d x server) (bestAt t d (nextSibling t x) server) taken spare rest known (m - later) within

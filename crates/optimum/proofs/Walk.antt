@@ -1,0 +1,186 @@
+-- The walk through the table: at a node its children's row can be walked, and a turn at a row leaves its later siblings.
+use mathlib.Core.Path.{_≡_, refl, sym, ap, _∙_}
+use mathlib.Core.Bool.{Bool, true, false, cond}
+use mathlib.Core.List.{List}
+use Prim.Native.Nat.{ℕ, _+_, _-_, _≤_, _<_}
+use native.Mathlib.Nat.{le-refl, sub-zero}
+use native.Mathlib.Numerals.{add-one}
+use native.Mathlib.Omega.{arith}
+use lib.ListN.{length, set, length-set}
+use lib.Seq.{sets}
+use Rattle.model.specs.File.{treeOf, demandOf, countOf, budgetOf, mostNodes}
+use Rattle.model.proofs.Accepted.{Sound}
+use Rattle.fields.specs.declared.Tree as code
+use Rattle.best_rows.specs.Rows.{rowSize}
+use Rattle.best_rows.specs.Best.{cap}
+use Rattle.best_rows.specs.TreeRows.{firstChild, nextSibling, rowAt}
+use Rattle.best_rows.specs.BestAt.{one, bestAt, bestNodes, nodeBestAt, takesNode, laterAt}
+use Rattle.best_rows.proofs.Table.{row-size-node}
+use Rattle.node_words.specs.Words.{wordOf, childWord, siblingWord, HasNode}
+use Rattle.table.specs.Table.{Table}
+use Rattle.table.proofs.Room.{room-sound, room-count, ready-node}
+use Rattle.optimum.specs.Walk.{nodesFrom, RowHas, RowToSplit, RowToWalk, NodeToWalk, Walked}
+use Rattle.optimum.proofs.Served.{children-served, children-served-above, siblings-served}
+use Rattle.optimum.proofs.Nodes.{row-has-node, row-without, children-attained, later-within, row-attained, row-stores}
+
+-- ---- what a table says
+
+module _ {file : List ℕ} {sizes : code.Tree} {s : List ℕ} (r : Table file sizes s) where
+  pub table-sound : Sound (treeOf file) (demandOf file)
+  table-sound = room-sound (r .ready .room)
+
+  pub table-has-node : {v : ℕ} → v < countOf file → HasNode s v
+  table-has-node h = ready-node (r .ready) (rw (room-count (r .ready .room)) h)
+
+  pub table-budget : sizes .budget ≡ budgetOf file
+  table-budget = ap (λ z. z .budget) (r .ready .room .of-file)
+
+  -- a first child, as it is read
+  pub table-child : {v child : ℕ} → v < countOf file → child ≡ wordOf s v childWord → child ≡ firstChild (treeOf file) v
+  table-child h e = e ∙ r .ready .words .child _ h
+
+-- ---- at a node with n caches at or below it
+
+module _ {file : List ℕ} {sizes : code.Tree} {s : List ℕ} {x server n : ℕ} {member : Bool} {at : ℕ} {rows : List ℕ}
+    (r : NodeToWalk file sizes s x server n member at rows) where
+  pub node-stands : HasNode s x
+  node-stands = table-has-node (r .table) (r .node .served .node)
+
+  pub node-small : x < mostNodes
+  node-small = omega (arith, r .node .served .node, table-sound (r .table) .few)
+
+  attained : let u = takesNode (treeOf file) (demandOf file) x server n in
+      (one x u ≤ n) × (bestAt (treeOf file) (demandOf file) (firstChild (treeOf file) x) (cond u x server) (n - one x u) < cap)
+  attained = children-attained (treeOf file) (demandOf file) x server n (r .node .attained)
+
+  module _ {child : ℕ} (e : child ≡ wordOf s x childWord) where
+    below-is : child ≡ firstChild (treeOf file) x
+    below-is = table-child (r .table) (r .node .served .node) e
+
+    pub child-row : rowSize (rowAt (treeOf file) child) ≡ rowSize (rowAt (treeOf file) (firstChild (treeOf file) x))
+    child-row = rw below-is
+
+    -- x is a cache: one fewer among its children, whom it serves
+    module _ (m : member ≡ true) where
+      pub member-some : 0 < n
+      member-some = rw (sym (r .own) ∙ m) at attained .0
+
+      pub member-row : RowToWalk file sizes s child x (n - 1) (at + 1) (set rows at x)
+      member-row = rw below-is (record {
+        table = r .table;
+        row = record {
+          served = children-served (treeOf file) (table-sound (r .table) .preorder) x (r .node .served .node);
+          within = omega (arith, r .node .within);
+          attained = rw (sym (r .own) ∙ m) at attained .1;
+        };
+        room = simp length-set (omega (arith, r .room, member-some));
+      })
+
+      pub member-stores : sets (set rows at x) (at + 1) (bestNodes (treeOf file) (demandOf file) child x (n - 1))
+          ≡ sets rows at (nodesFrom (treeOf file) (demandOf file) x server n)
+      unfolding nodesFrom
+      member-stores = rw (sym (r .own) ∙ m, below-is, add-one at)
+
+    -- it is none: all among its children
+    module _ (m : member ≡ false) where
+      pub other-row : RowToWalk file sizes s child server n at rows
+      other-row = rw below-is (record {
+        table = r .table;
+        row = record {
+          served = children-served-above (treeOf file) (table-sound (r .table) .preorder) x server (r .node .site) (r .node .served);
+          within = r .node .within;
+          attained = rw (sym (r .own) ∙ m, sub-zero) at attained .1;
+        };
+        room = r .room;
+      })
+
+      pub other-stores : sets rows at (bestNodes (treeOf file) (demandOf file) child server n)
+          ≡ sets rows at (nodesFrom (treeOf file) (demandOf file) x server n)
+      unfolding nodesFrom
+      other-stores = rw (sym (r .own) ∙ m, below-is, sub-zero)
+
+-- ---- at a row with m caches
+
+module _ {file : List ℕ} {sizes : code.Tree} {s : List ℕ} {server first count start : ℕ} {old : List ℕ} where
+  pub walk-begins : RowToWalk file sizes s first server count start old
+      → Walked file sizes s server first count start old first count start old
+  walk-begins h = record { here = h; left = refl; smaller = le-refl _; long = refl; stores = refl }
+
+  module _ {x m at : ℕ} {new : List ℕ} (w : Walked file sizes s server first count start old x m at new) where
+    pub walk-ends : m ≤ 0 → (at ≡ start + count) × (new ≡ sets old start (bestNodes (treeOf file) (demandOf file) first server count))
+    walk-ends h =
+        let none : m ≡ 0 = omega arith in
+        let row = rw none at (w .here .row .attained) in
+        (omega (arith, w .left), rw (none, row-without (treeOf file) (demandOf file) x server row) at (w .stores))
+
+    module _ (some : 0 < m) where
+      row : RowHas file x server m
+      row = w .here .row
+
+      walked-site : 0 < x
+      walked-site = row-has-node (treeOf file) (demandOf file) x server m some (row .attained)
+
+      pub walked-row : RowToSplit file sizes s x server m
+      walked-row = record { table = w .here .table; site = walked-site; row = row }
+
+      pub walked-stands : HasNode s x
+      walked-stands = table-has-node (w .here .table) (row .served .node)
+
+      row-shrinks : 1 + rowSize (rowAt (treeOf file) (firstChild (treeOf file) x)) + rowSize (rowAt (treeOf file) (nextSibling (treeOf file) x))
+          ≡ rowSize (rowAt (treeOf file) x)
+      row-shrinks = sym (row-size-node (treeOf file) (demandOf file) x walked-site (row .served .node))
+
+      -- the children's row is smaller than the row walked, and the later siblings' than the one that x begins
+      pub children-smaller : rowSize (rowAt (treeOf file) (firstChild (treeOf file) x)) < rowSize (rowAt (treeOf file) first)
+      children-smaller = omega (arith, row-shrinks, w .smaller)
+
+      sibling-is : {next : ℕ} → next ≡ wordOf s x siblingWord → next ≡ nextSibling (treeOf file) x
+      sibling-is f = f ∙ w .here .table .ready .words .sibling x walked-site (row .served .node)
+
+      pub siblings-smaller : {next : ℕ} → next ≡ wordOf s x siblingWord
+          → rowSize (rowAt (treeOf file) next) < rowSize (rowAt (treeOf file) x)
+      siblings-smaller f = rw (sibling-is f) (omega (arith, row-shrinks))
+
+      module _ {later : ℕ} (e : later ≡ laterAt (treeOf file) (demandOf file) x server m) where
+        pub walked-later : later ≤ m
+        walked-later = rw e (later-within (treeOf file) (demandOf file) x server m walked-site (row .served .node) (row .attained))
+
+        both-attained : (nodeBestAt (treeOf file) (demandOf file) x server (m - later) < cap)
+            × (bestAt (treeOf file) (demandOf file) (nextSibling (treeOf file) x) server later < cap)
+        both-attained = rw e (row-attained (treeOf file) (demandOf file) x server m walked-site (row .served .node) (row .attained))
+
+        pub walked-node : {member : Bool} → member ≡ takesNode (treeOf file) (demandOf file) x server (m - later)
+            → NodeToWalk file sizes s x server (m - later) member at new
+        walked-node u = record {
+          table = w .here .table;
+          node = record {
+            site = walked-site;
+            served = row .served;
+            within = omega (arith, row .within);
+            attained = both-attained .0;
+          };
+          own = u;
+          room = omega (arith, w .here .room);
+        }
+
+        pub walk-turns : {end next : ℕ} {l : List ℕ} → next ≡ wordOf s x siblingWord → end ≡ at + (m - later)
+            → l ≡ sets new at (nodesFrom (treeOf file) (demandOf file) x server (m - later)) → length l ≡ length new
+            → Walked file sizes s server first count start old next later end l
+        walk-turns f g k long =
+            let t = treeOf file in
+            let d = demandOf file in
+            rw (sibling-is f) (record {
+              here = record {
+                table = w .here .table;
+                row = record {
+                  served = siblings-served t (table-sound (w .here .table) .preorder) x server walked-site (row .served);
+                  within = omega (arith, walked-later, row .within);
+                  attained = both-attained .1;
+                };
+                room = omega (arith, walked-later, w .here .room);
+              };
+              left = omega (arith, walked-later, w .left);
+              smaller = omega (arith, row-shrinks, w .smaller);
+              long = long ∙ w .long;
+              stores = rw (k, g, e) (sym (row-stores t d x server m walked-site (row .served .node) (row .attained) new at) ∙ w .stores);
+            })

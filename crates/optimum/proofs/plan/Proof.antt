@@ -1,0 +1,64 @@
+-- `plan`: for each budget from 0 to k the least total and the nodes of the plan; a refusal writes nothing.
+use mathlib.Core.Path.{sym, ap, _∙_}
+use borrow.Author.Needs.{needs}
+use Rattle.laws.proofs.Bools.{held, failed}
+use Rattle.tree_file.specs.Checks.{answerOf}
+use Rattle.optimum.proofs.Answers.{plan-refused, plan-room, plan-budget-fits, plan-short, plan-long, plan-written}
+use Rattle.optimum.proofs.plan.Statement.{statement}
+use Rattle.optimum.proofs.plan.Tie as tie
+
+check-requires : tie.Need-check-requires
+check-requires c κs = search needs
+
+enum-known-checked : tie.Need-enum-known-checked
+enum-known-checked c = search needs
+
+buffers-long-requires : tie.Need-buffers-long-requires
+buffers-long-requires c κs = let a = c .before .before .before .before .before .before .before .before .args in plan-budget-fits (a .file .now) (a .scratch .now) (ap answerOf (sym (c .before .checked .given .1)) ∙ c .before .before .before .check .ensures)
+
+returns : tie.Need-returns
+returns c = plan-short _ _ _ _ (ap answerOf (sym (c .before .before .before .checked .given .1)) ∙ c .before .before .before .before .before .check .ensures) (failed (c .before .buffers-long .ensures) (c .if1 .taken))
+
+make-plan-requires : tie.Need-make-plan-requires
+make-plan-requires c κs =
+    let a = c .before .before .before .before .before .before .before .before .before .before .before .before .before .args in
+    let told = ap answerOf (sym (c .before .before .before .before .before .before .checked .given .1)) ∙ c .before .before .before .before .before .before .before .before .check .ensures in (
+      plan-room (a .file .now) (a .scratch .now) told,
+      plan-long (a .file .now) (a .scratch .now) (a .totals .now) (a .rows .now) told (held (c .before .before .before .before .buffers-long .ensures) (c .before .before .before .if1 .left)),
+    )
+
+enum-known-checked-2 : tie.Need-enum-known-checked-2
+enum-known-checked-2 c = search needs
+
+same-length : tie.Need-same-length
+same-length c = search needs
+
+same-length-2 : tie.Need-same-length-2
+same-length-2 c = search needs
+
+same-length-3 : tie.Need-same-length-3
+same-length-3 c = search needs
+
+returns-2 : tie.Need-returns-2
+returns-2 c =
+    let made = c .before .before .before .before .before .before .make-plan .ensures in
+    plan-written _ _ _ _ (ap answerOf (sym (c .before .before .before .before .before .before .before .before .before .before .before .before .before .checked .given .1)) ∙ c .before .before .before .before .before .before .before .before .before .before .before .before .before .before .before .check .ensures) (held (c .before .before .before .before .before .before .before .before .before .before .before .buffers-long .ensures) (c .before .before .before .before .before .before .before .before .before .before .if1 .left)) (made .0) (made .1 .0) (made .1 .1)
+
+returns-3 : tie.Need-returns-3
+returns-3 c = plan-refused _ _ _ _ (ap answerOf (sym (c .before .checked2 .given .1)) ∙ c .before .before .before .check .ensures)
+
+pub plan-spec : {M : Type 1} → statement M
+plan-spec =
+    tie.close
+    (tie.spec
+    check-requires
+    enum-known-checked
+    buffers-long-requires
+    returns
+    make-plan-requires
+    enum-known-checked-2
+    same-length
+    same-length-2
+    same-length-3
+    returns-2
+    returns-3)

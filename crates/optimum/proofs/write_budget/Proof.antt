@@ -1,0 +1,74 @@
+-- `write_budget`: writes the total and the row of budget b, and returns how many caches it takes; `last` is the budget ..
+use mathlib.Core.Path.{ap}
+use Prim.Native.Nat.{_*_}
+use native.Mathlib.Omega.{arith}
+use lib.ListN.{set}
+use borrow.Author.Needs.{needs}
+use Rattle.optimum.proofs.Walk.{table-sound, table-has-node}
+use Rattle.optimum.proofs.Budgets.{line-place, counts-there, count-found, count-there, total-found, budget-row, row-found}
+use Rattle.optimum.proofs.write_budget.Statement.{statement}
+use Rattle.optimum.proofs.write_budget.Tie as tie
+
+child-of-requires : tie.Need-child-of-requires
+child-of-requires c κs = let r = c .before .before .before .before .pre .0 .table in table-has-node r (table-sound r .some)
+
+line-requires : tie.Need-line-requires
+line-requires c κs = line-place (c .before .before .before .before .before .pre .0) (c .child-of .ensures)
+
+better-count-requires : tie.Need-better-count-requires
+better-count-requires c κs = counts-there (c .before .before .before .before .before .before .pre .0) (c .before .child-of .ensures) (c .line .ensures)
+
+mul-totals : tie.Need-mul-totals
+mul-totals c = omega (arith, count-there (c .before .before .before .before .before .before .before .pre .0) (c .before .before .child-of .ensures) (c .before .line .ensures) (c .better-count .ensures))
+
+shared-slice-read-totals : tie.Need-shared-slice-read-totals
+shared-slice-read-totals c = count-there (c .before .before .before .before .before .before .before .before .pre .0) (c .before .before .before .child-of .ensures) (c .before .before .line .ensures) (c .before .better-count .ensures)
+
+mul-totals-2 : tie.Need-mul-totals-2
+mul-totals-2 c = search needs
+
+slice-write-totals : tie.Need-slice-write-totals
+slice-write-totals c = search needs
+
+mul-write-row : tie.Need-mul-write-row
+mul-write-row c = omega (arith, budget-row (c .before .before .before .before .before .before .before .before .before .before .pre .0) (c .before .before .before .before .before .child-of .ensures) (c .before .before .before .before .line .ensures) (c .before .before .before .better-count .ensures) (c .before .before .before .before .before .before .before .before .before .before .pre .1) .1)
+
+write-row-requires : tie.Need-write-row-requires
+write-row-requires c κs = budget-row (c .before .before .before .before .before .before .before .before .before .before .pre .0) (c .before .before .before .before .before .child-of .ensures) (c .before .before .before .before .line .ensures) (c .before .before .before .better-count .ensures) (c .before .before .before .before .before .before .before .before .before .before .pre .1)
+
+same-length : tie.Need-same-length
+same-length c = search needs
+
+same-length-2 : tie.Need-same-length-2
+same-length-2 c = search needs
+
+returns : tie.Need-returns
+returns c =
+    let b = c .before .before .before .before .before .before .before .before .before .before .before .before .before .pre .0 in
+    let a = c .before .before .before .before .before .before .before .before .before .before .before .before .before .args in
+    let first = c .before .before .before .before .before .before .before .before .child-of .ensures in
+    let line = c .before .before .before .before .before .before .before .line .ensures in
+    let count = c .before .before .before .before .before .before .better-count .ensures in (
+      count-found b first line count,
+      (
+        ap (set (a .totals .now) (a .b)) (total-found b first line count),
+        row-found b first line count (a .rows .now) (a .b * a .tree .budget) (c .before .before .write-row .ensures),
+      ),
+    )
+
+pub write-budget-spec : {M : Type 1} → statement M
+write-budget-spec =
+    tie.close
+    (tie.spec
+    child-of-requires
+    line-requires
+    better-count-requires
+    mul-totals
+    shared-slice-read-totals
+    mul-totals-2
+    slice-write-totals
+    mul-write-row
+    write-row-requires
+    same-length
+    same-length-2
+    returns)

@@ -1,0 +1,30 @@
+-- `write_row`: writes a row of the answer from `at` on: the m caches of the server's row, then zeros.
+use native.Mathlib.Omega.{arith}
+use borrow.Author.Needs.{needs}
+use Rattle.optimum.proofs.Walk.{table-sound, table-has-node}
+use Rattle.optimum.proofs.Budgets.{row-then-zeros, row-first, row-ends-within}
+use Rattle.optimum.proofs.write_row.Statement.{statement}
+use Rattle.optimum.proofs.write_row.Tie as tie
+
+child-of-requires : tie.Need-child-of-requires
+child-of-requires c κs = let r = c .before .before .before .before .pre .0 .table in table-has-node r (table-sound r .some)
+
+walk-row-requires : tie.Need-walk-row-requires
+walk-row-requires c κs = row-first (c .before .before .before .before .before .pre .0) (c .child-of .ensures)
+
+add-clear : tie.Need-add-clear
+add-clear c = search needs
+
+clear-requires : tie.Need-clear-requires
+clear-requires c κs = (row-ends-within (c .before .before .before .before .before .before .before .before .before .before .pre .0) (c .before .before .before .before .walk-row .ensures .0), omega (arith, c .before .before .before .before .before .before .before .before .before .before .pre .1, c .before .before .before .before .walk-row .kept .1 .1 .1 .0))
+
+same-length : tie.Need-same-length
+same-length c = search needs
+
+returns : tie.Need-returns
+returns c = row-then-zeros (c .before .before .before .before .before .before .before .before .before .before .before .before .before .pre .0) _ (c .before .before .before .before .before .before .before .before .child-of .ensures) (c .before .before .before .before .before .before .before .walk-row .ensures .0) (c .before .before .before .before .before .before .before .walk-row .ensures .1) (c .before .before .clear .ensures)
+
+pub write-row-spec : {M : Type 1} → statement M
+write-row-spec =
+    tie.close
+    (tie.spec child-of-requires walk-row-requires add-clear clear-requires same-length returns)

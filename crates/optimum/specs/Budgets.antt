@@ -1,0 +1,36 @@
+-- What is written for each budget: the plan's total, and its row of nodes.
+use mathlib.Core.Path.{_≡_}
+use mathlib.Core.List.{List, map, flatMap}
+use Prim.Native.Nat.{ℕ, _+_, _*_, _-_, _≤_}
+use lib.ListN.{length}
+use lib.Seq.{sets}
+use Rattle.laws.specs.Lists.{range}
+use Rattle.model.specs.File.{treeOf, demandOf, budgetOf}
+use Rattle.model.specs.Plan.{plan, planTotal, row}
+use Rattle.fields.specs.declared.Tree as code
+use Rattle.best_rows.specs.BestAt.{leastCount}
+use Rattle.table.specs.Table.{Table}
+
+-- the plan's row of budget b
+abbrev pub planRow : List ℕ → ℕ → List ℕ
+planRow file b = row (budgetOf file) (plan (treeOf file) (demandOf file) b)
+
+-- what budget b is written from: the table, and the count found for the budget before it
+pub record Budget (file : List ℕ) (sizes : code.Tree) (s : List ℕ) (b last : ℕ) : Type 0 where
+  pub table : Table file sizes s
+  pub within : b ≤ budgetOf file
+  pub counted : last ≡ leastCount (treeOf file) (demandOf file) (b - 1)
+
+-- the buffers are long enough for every budget
+pub record Buffers (file totals rows : List ℕ) : Type 0 where
+  pub totalsLong : budgetOf file + 1 ≤ length totals
+  pub rowsLong : (budgetOf file + 1) * budgetOf file ≤ length rows
+
+-- the budgets before b are written
+pub record Planned (file : List ℕ) (totals rows : List ℕ) (b last : ℕ) (totals′ rows′ : List ℕ) : Type 0 where
+  pub within : b ≤ budgetOf file + 1
+  pub counted : last ≡ leastCount (treeOf file) (demandOf file) (b - 1)
+  pub totalsLong : length totals′ ≡ length totals
+  pub rowsLong : length rows′ ≡ length rows
+  pub totalsAfter : totals′ ≡ sets totals 0 (map (planTotal (treeOf file) (demandOf file)) (range 0 b))
+  pub rowsAfter : rows′ ≡ sets rows 0 (flatMap (planRow file) (range 0 b))

@@ -1,0 +1,224 @@
+// The plan: for each budget the caches of the least total, first in the order of ties, read out of the table.
+ghost use mathlib.Core.Path.{_≡_};
+ghost use mathlib.Core.Bool.{_&&_};
+ghost use Prim.Native.Nat.{suc, _+_, _-_, _*_, _≤_, _<_};
+ghost use lib.Dec.{leb};
+ghost use lib.ListN.{length, getD, set, replicate};
+ghost use lib.Seq.{sets};
+ghost use Rattle.laws.specs.Fronts.{FrontOnly};
+ghost use Rattle.model.specs.File.{treeOf, demandOf, mostBudget};
+ghost use Rattle.model.specs.Rules.{scratchWords};
+ghost use Rattle.model.specs.Plan.{planTotal, row};
+ghost use Rattle.model.specs.Calls.{planTotals, planRows, PlanCall};
+ghost use Rattle.tree_file.specs.Checks.{verdictOf};
+ghost use Rattle.best_rows.specs.Least.{better};
+ghost use Rattle.best_rows.specs.TreeRows.{firstChild};
+ghost use Rattle.best_rows.specs.BestAt.{bestNodes, leastCount, takesNode, laterAt};
+ghost use Rattle.table.specs.Table.{TableRoom, Table};
+ghost use Rattle.optimum.specs.Walk.{nodesFrom, RowToSplit, RowToWalk, NodeToWalk};
+ghost use Rattle.optimum.specs.Budgets.{planRow, Budget, Buffers};
+use tree_file::Checked;
+use tree_file::Ruling;
+use units::Total;
+
+// Of the caches of a row: how many are among the later siblings, and whether the first node is one of the others.
+struct Split {
+    later: usize,
+    member: bool,
+}
+
+// ---- the walk through the table
+
+// How the m caches of the row that begins with x split.
+fn split_of(file: &[u8], tree: fields::Tree, s: &[u64], x: usize, server: usize, m: usize) -> Split
+    requires { ⌜ RowToSplit (now file) tree (now s) x server m ⌝ }
+    ensures { λ r. ⌜ r .later ≡ laterAt (treeOf (now (file .entry))) (demandOf (now (file .entry))) x server m ⌝ }
+    ensures { λ r. ⌜ r .member ≡ takesNode (treeOf (now (file .entry))) (demandOf (now (file .entry))) x server (m - r .later) ⌝ }
+{
+    let above = node_words::depth_word(s, server);
+    let child = node_words::child_of(s, x);
+    let taken = table::line(s, tree, child, node_words::depth_word(s, x));
+    let spare = table::line(s, tree, child, above);
+    let rest = table::line(s, tree, node_words::sibling_of(s, x), above);
+    let member = table::pays(file, s, x, x);
+    let other = table::pays(file, s, x, server);
+    let later = lines::later(taken, spare, rest, member, other, m);
+    Split {
+        later,
+        member: lines::takes(taken, spare, member, other, m - later),
+    }
+}
+
+// Writes the n caches at or below x from `at` on, x being one of them if it is a member, and returns where they end.
+fn walk_node(
+    file: &[u8],
+    tree: fields::Tree,
+    s: &[u64],
+    rows: &mut [u16],
+    x: usize,
+    server: usize,
+    n: usize,
+    member: bool,
+    at: usize,
+) -> usize
+    requires { ⌜ NodeToWalk (now file) tree (now s) x server n member at (now rows) ⌝ }
+    ensures { λ r. ⌜ r ≡ at + n ⌝ }
+    ensures { λ _. ⌜ now (rows .exit) ≡ sets (now (rows .entry)) at (nodesFrom (treeOf (now (file .entry))) (demandOf (now (file .entry))) x server n) ⌝ }
+{
+    let child = node_words::child_of(s, x);
+    if member {
+        rows[at] = x as u16;
+        return walk_row(file, tree, s, rows, child, x, n - 1, at + 1);
+    }
+    walk_row(file, tree, s, rows, child, server, n, at)
+}
+
+// Writes the `count` caches of the row that begins with `first` from `start` on, and returns where they end.
+fn walk_row(
+    file: &[u8],
+    tree: fields::Tree,
+    s: &[u64],
+    rows: &mut [u16],
+    first: usize,
+    server: usize,
+    count: usize,
+    start: usize,
+) -> usize
+    requires { ⌜ RowToWalk (now file) tree (now s) first server count start (now rows) ⌝ }
+    ensures { λ r. ⌜ r ≡ start + count ⌝ }
+    ensures { λ _. ⌜ now (rows .exit) ≡ sets (now (rows .entry)) start (bestNodes (treeOf (now (file .entry))) (demandOf (now (file .entry))) first server count) ⌝ }
+{
+    let mut x = first;
+    let mut m = count;
+    let mut at = start;
+    while 0 < m {
+        let split = split_of(file, tree, s, x, server, m);
+        let later = split.later;
+        at = walk_node(file, tree, s, rows, x, server, m - later, split.member, at);
+        x = node_words::sibling_of(s, x);
+        m = later;
+    }
+    at
+}
+
+// ---- the plan, budget by budget
+
+// The better of two counts by the line: the last one, unless the next costs less.
+fn better_count(line: &[u64], last: usize, next: usize) -> usize
+    requires { ⌜ (last < length (now line)) × (next < length (now line)) ⌝ }
+    ensures { λ r. ⌜ r ≡ better (λ n. getD (now (line .entry)) n 0) last next ⌝ }
+{
+    if Total(line[next]).is_less(Total(line[last])) {
+        next
+    } else {
+        last
+    }
+}
+
+// Zeros from `start` up to `end`.
+fn clear(rows: &mut [u16], start: usize, end: usize)
+    requires { ⌜ (start ≤ end) × (end ≤ length (now rows)) ⌝ }
+    ensures { λ _. ⌜ now (rows .exit) ≡ sets (now (rows .entry)) start (replicate (end - start) 0) ⌝ }
+{
+    let mut i = start;
+    while i < end {
+        rows[i] = 0;
+        i += 1;
+    }
+}
+
+// Writes a row of the answer from `at` on: the m caches of the server's row, then zeros.
+fn write_row(file: &[u8], tree: fields::Tree, s: &[u64], rows: &mut [u16], m: usize, at: usize)
+    requires { ⌜ RowToWalk (now file) tree (now s) (firstChild (treeOf (now file)) 0) 0 m at (now rows) ⌝ }
+    requires { ⌜ at + tree .budget ≤ length (now rows) ⌝ }
+    ensures { λ _. ⌜ now (rows .exit) ≡ sets (now (rows .entry)) at (row (tree .budget) (bestNodes (treeOf (now (file .entry))) (demandOf (now (file .entry))) (firstChild (treeOf (now (file .entry))) 0) 0 m)) ⌝ }
+{
+    let end = walk_row(file, tree, s, rows, node_words::child_of(s, 0), 0, m, at);
+    clear(rows, end, at + tree.budget);
+}
+
+// Writes the total and the row of budget b, and returns how many caches it takes; `last` is the budget before.
+fn write_budget(
+    file: &[u8],
+    tree: fields::Tree,
+    s: &[u64],
+    totals: &mut [u64],
+    rows: &mut [u16],
+    b: usize,
+    last: usize,
+) -> usize
+    requires { ⌜ Budget (now file) tree (now s) b last ⌝ }
+    requires { ⌜ Buffers (now file) (now totals) (now rows) ⌝ }
+    ensures { λ r. ⌜ r ≡ leastCount (treeOf (now (file .entry))) (demandOf (now (file .entry))) b ⌝ }
+    ensures { λ _. ⌜ now (totals .exit) ≡ set (now (totals .entry)) b (planTotal (treeOf (now (file .entry))) (demandOf (now (file .entry))) b) ⌝ }
+    ensures { λ _. ⌜ now (rows .exit) ≡ sets (now (rows .entry)) (b * tree .budget) (planRow (now (file .entry)) b) ⌝ }
+{
+    let line = table::line(s, tree, node_words::child_of(s, 0), 0);
+    let count = better_count(line, last, b);
+    totals[b] = line[count];
+    write_row(file, tree, s, rows, count, b * tree.budget);
+    count
+}
+
+// Writes every budget.
+fn write_plan(file: &[u8], tree: fields::Tree, s: &[u64], totals: &mut [u64], rows: &mut [u16])
+    requires { ⌜ Table (now file) tree (now s) ⌝ }
+    requires { ⌜ Buffers (now file) (now totals) (now rows) ⌝ }
+    ensures { λ _. ⌜ now (totals .exit) ≡ sets (now (totals .entry)) 0 (planTotals (now (file .entry))) ⌝ }
+    ensures { λ _. ⌜ now (rows .exit) ≡ sets (now (rows .entry)) 0 (planRows (now (file .entry))) ⌝ }
+{
+    let mut count = 0;
+    let mut b = 0;
+    while b <= tree.budget {
+        count = write_budget(file, tree, s, totals, rows, b, count);
+        b += 1;
+    }
+}
+
+// The table made in the scratch, and the plan written from it.
+pub fn make_plan(
+    file: &[u8],
+    tree: fields::Tree,
+    scratch: &mut [u64],
+    totals: &mut [u64],
+    rows: &mut [u16],
+)
+    requires { ⌜ TableRoom (now file) tree (now scratch) ⌝ }
+    requires { ⌜ Buffers (now file) (now totals) (now rows) ⌝ }
+    ensures { λ _. ⌜ FrontOnly (scratchWords (now (file .entry))) (now (scratch .entry)) (now (scratch .exit)) ⌝ }
+    ensures { λ _. ⌜ now (totals .exit) ≡ sets (now (totals .entry)) 0 (planTotals (now (file .entry))) ⌝ }
+    ensures { λ _. ⌜ now (rows .exit) ≡ sets (now (rows .entry)) 0 (planRows (now (file .entry))) ⌝ }
+{
+    table::make_table(file, tree, scratch);
+    write_plan(file, tree, scratch, totals, rows);
+}
+
+// ---- the call
+
+// Rule 14: k + 1 totals, and k + 1 rows of k numbers.
+pub fn buffers_long(k: usize, totals: usize, rows: usize) -> bool
+    requires { ⌜ k ≤ mostBudget ⌝ }
+    ensures { λ r. ⌜ r ≡ (leb (suc k) totals && leb (suc k * k) rows) ⌝ }
+{
+    if totals < k + 1 {
+        return false;
+    }
+    (k + 1) * k <= rows
+}
+
+// For each budget from 0 to k the least total and the nodes of the plan; a refusal writes nothing.
+pub fn plan(file: &[u8], scratch: &mut [u64], totals: &mut [u64], rows: &mut [u16]) -> Ruling
+    ensures { λ r. ⌜ PlanCall (now (file .entry)) (now (scratch .entry)) (now (totals .entry)) (now (rows .entry)) (verdictOf r) (now (scratch .exit)) (now (totals .exit)) (now (rows .exit)) ⌝ }
+{
+    let checked = lent::check(file, scratch.len());
+    match checked {
+        Checked::Accepted(tree) => {
+            if !buffers_long(tree.budget, totals.len(), rows.len()) {
+                return Ruling::Broken(14, 0);
+            }
+            make_plan(file, tree, scratch, totals, rows);
+            Ruling::Passed
+        }
+        Checked::Refused(q, record) => Ruling::Broken(q, record),
+    }
+}

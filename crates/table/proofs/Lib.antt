@@ -1,0 +1,7 @@
+pub mod Places
+pub mod Lines
+pub mod Prices
+pub mod Room
+pub mod Reading
+pub mod Climb
+pub mod Fill

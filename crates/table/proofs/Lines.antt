@@ -1,0 +1,95 @@
+-- Laws of what the lines hold: the empty row's, those of children and later siblings, and the one that they join to.
+use mathlib.Core.Path.{_≡_, sym, ap, _∙_}
+use mathlib.Core.Bool.{cond}
+use mathlib.Core.List.{List, map}
+use mathlib.Core.Logic.{_⊎_, inl, inr}
+use Prim.Native.Nat.{ℕ, _≤_, _<_}
+use lib.ListN.{length, take, getD}
+use Rattle.laws.specs.Lists.{range, bit}
+use Rattle.laws.proofs.Lists.{length-of-range}
+use Rattle.laws.proofs.FrontValues.{same-on-range, entry-of-range-alone}
+use Rattle.model.specs.File.{Tree, Demand}
+use Rattle.model.specs.Bill.{price}
+use Rattle.model.proofs.Accepted.{Sound}
+use Rattle.best_rows.specs.Rows.{rowSize}
+use Rattle.best_rows.specs.Best.{cap, cell, best}
+use Rattle.best_rows.specs.TreeRows.{firstChild, nextSibling, rowAt}
+use Rattle.best_rows.specs.BestAt.{one, prefer, site, bestAt, childrenAt}
+use Rattle.best_rows.proofs.TreeRows.{row-at-none, row-at-node}
+use Rattle.best_rows.proofs.Table.{best-at-within-cap, best-at-over}
+use Rattle.node_words.specs.Ancestors.{ancestorAt}
+use Rattle.lines.specs.Line.{LineParts, lineCell, emptyCell}
+use Rattle.lines.proofs.Known.{Known, known-parts, known-line, empty-is-best}
+use Rattle.table.specs.Table.{lineFor, Served}
+use Rattle.table.proofs.Prices.{price-within-cap}
+
+module _ (t : Tree) (d : Demand) where
+  -- the row that begins with v, from those of its children and its later siblings
+  best-at-cell : (v c m : ℕ) → 0 < v → v < t .count
+      → bestAt t d v c m ≡ cell bit prefer (site t d v .pay c) (childrenAt t d v c) (bestAt t d (nextSibling t v) c) m
+  unfolding bestAt best
+  best-at-cell v c m h k = ap (λ r. best one prefer (site t d) r c m) (row-at-node t v h k)
+
+  best-at-empty : (c m : ℕ) → bestAt t d 0 c m ≡ emptyCell m
+  unfolding bestAt
+  best-at-empty c m = rw (row-at-none t) (sym (empty-is-best one prefer (site t d) c m))
+
+  module _ (w : ℕ) where
+    pub length-line-for : (x a : ℕ) → length (lineFor t d w x a) ≡ w
+    unfolding lineFor
+    length-line-for x a = length-of-range _ 0 w
+
+    -- ---- an entry of a line
+
+    pub line-entry : (x a n : ℕ) → n < w → getD (lineFor t d w x a) n 0 ≡ bestAt t d x (ancestorAt t x a) n
+    unfolding lineFor
+    line-entry x a n h = entry-of-range-alone _ w n h
+
+    pub line-within-cap : (x a n : ℕ) → n < w → getD (lineFor t d w x a) n 0 ≤ cap
+    line-within-cap x a n h = rw (line-entry x a n h) (best-at-within-cap t d x (ancestorAt t x a) n)
+
+    -- past the row's size there is no choice
+    pub line-over-size : (x a n : ℕ) → n < w → rowSize (rowAt t x) < n → getD (lineFor t d w x a) n 0 ≡ cap
+    line-over-size x a n h k = line-entry x a n h ∙ best-at-over t d x (ancestorAt t x a) n k
+
+    -- ---- whole lines
+
+    empty-under : (c : ℕ) → map (bestAt t d 0 c) (range 0 w) ≡ map emptyCell (range 0 w)
+    empty-under c = same-on-range _ _ 0 w (λ m _ _. best-at-empty c m)
+
+    -- the empty row's: 0, then no choice
+    pub line-for-empty : (a : ℕ) → lineFor t d w 0 a ≡ map emptyCell (range 0 w)
+    unfolding lineFor
+    line-for-empty a = empty-under (ancestorAt t 0 a)
+
+    -- that of a row under u, which serves it from above
+    pub line-under : (c a u : ℕ) → (c ≡ 0) ⊎ (ancestorAt t c a ≡ u) → lineFor t d w c a ≡ map (bestAt t d c u) (range 0 w)
+    unfolding lineFor
+    line-under c a u (inl e) = rw e (line-for-empty a ∙ sym (empty-under u))
+    line-under c a u (inr e) = rw e
+
+    -- the line of node v from those of its children, with v as a cache and without, and of its later siblings
+    pub line-joined : (v a u : ℕ) (taken spare rest : List ℕ) → 0 < v → v < t .count → u ≡ ancestorAt t v a
+        → Known w (childrenAt t d v u) (bestAt t d (nextSibling t v) u) taken spare rest
+        → map (lineCell taken spare rest (price t d v v) (price t d v u)) (range 0 w) ≡ lineFor t d w v a
+    unfolding lineFor
+    line-joined v a u taken spare rest h k e known =
+        known-line w (site t d v .pay u) (childrenAt t d v u) (bestAt t d (nextSibling t v) u) taken spare rest known
+        ∙ same-on-range _ _ 0 w (λ m _ _. sym (best-at-cell v u m h k) ∙ ap (λ c. bestAt t d v c m) e)
+
+    -- the same, of what the code made
+    pub line-read : {v a u n member other : ℕ} {taken spare rest : List ℕ} (l : List ℕ) → Served t v a u
+        → Known w (childrenAt t d v u) (bestAt t d (nextSibling t v) u) taken spare rest
+        → n ≡ w → member ≡ price t d v v → other ≡ price t d v u
+        → take n l ≡ map (lineCell taken spare rest member other) (range 0 n) → take w l ≡ lineFor t d w v a
+    line-read {v} {a} {u} {taken = taken} {spare = spare} {rest = rest} l at known e m o h =
+        (rw (e, m, o) at h) ∙ line-joined v a u taken spare rest (at .site) (at .node) (at .server) known
+
+    -- what the code makes it from
+    pub parts-read : {v a u n member other : ℕ} {taken spare rest : List ℕ} → Sound t d → Served t v a u
+        → Known w (childrenAt t d v u) (bestAt t d (nextSibling t v) u) taken spare rest
+        → n ≡ w → member ≡ price t d v v → other ≡ price t d v u → LineParts n taken spare rest member other
+    parts-read {v} {a} {u} {taken = taken} {spare = spare} {rest = rest} ok at known e m o =
+        rw (e, m, o)
+        (known-parts w (site t d v .pay u) (childrenAt t d v u) (bestAt t d (nextSibling t v) u) taken spare rest known
+        (λ b. price-within-cap t d ok v (cond b v u)) (λ b. best-at-within-cap t d (firstChild t v) (cond b v u)) (best-at-within-cap t d (nextSibling t v) u))

@@ -1,0 +1,153 @@
+-- What a table says at a node: the lines of its children and of its later siblings hold the least of their rows.
+use mathlib.Core.Path.{_≡_, _∙_}
+use mathlib.Core.List.{List, map}
+use mathlib.Core.Logic.{inl, inr, ⊎-elim}
+use Prim.Native.Nat.{ℕ, _+_, _≤_, _<_}
+use native.Mathlib.Nat.{le-refl}
+use native.Mathlib.Omega.{arith}
+use lib.ListN.{length}
+use Rattle.laws.specs.Lists.{range}
+use Rattle.laws.proofs.Numbers.{row-before}
+use Rattle.model.specs.File.{Tree, treeOf, demandOf, countOf}
+use Rattle.model.specs.Tree.{depth}
+use Rattle.model.proofs.Routes.{Preorder}
+use Rattle.fields.specs.declared.Tree as code
+use Rattle.best_rows.specs.TreeRows.{firstChild, nextSibling}
+use Rattle.best_rows.specs.BestAt.{bestAt, childrenAt}
+use Rattle.best_rows.proofs.TreeRows.{NoneOrChild, first-child-stands, next-sibling-stands}
+use Rattle.node_words.specs.Words.{HasNode, wordOf, depthWord, childWord, siblingWord}
+use Rattle.node_words.specs.Ancestors.{ancestorAt}
+use Rattle.node_words.proofs.Words.{child-word-stands, sibling-word-stands}
+use Rattle.node_words.proofs.Ancestors.{ancestor-self, child-depth, child-ancestor, sibling-depth, sibling-ancestor, ancestor-server, ancestor-before, ancestor-nearer}
+use Rattle.lines.specs.Line.{mostWidth}
+use Rattle.lines.proofs.Known.{Known}
+use Rattle.table.specs.Table.{width, lineNumber, tableEnd, InTable, lineIn, FilledFrom, TableFrom, Table, Served, Client}
+use Rattle.table.proofs.Lines.{line-under}
+use Rattle.table.proofs.Room.{room-sound, room-count, room-long, room-place, room-depth, ready-node, ready-client}
+
+module _ {file : List ℕ} {sizes : code.Tree} {s : List ℕ} {i : ℕ} (r : TableFrom file sizes s i) where
+  -- ---- where the line of a row stands
+
+  row-place : (v p c b : ℕ) → NoneOrChild (treeOf file) v p c → b ≤ sizes .height → InTable sizes c b × (tableEnd sizes ≤ length s)
+  row-place v p c b n h =
+      let count = room-count (r .ready .room) in (
+        room-place (r .ready .room) (⊎-elim (λ e. omega (arith, count, room-sound (r .ready .room) .some)) (λ k. omega (arith, k .1, count)) n) h,
+        room-long (r .ready .room),
+      )
+
+  pub child-place : (v : ℕ) {child b : ℕ} → v < countOf file → child ≡ wordOf s v childWord → b ≤ sizes .height
+      → InTable sizes child b × (tableEnd sizes ≤ length s)
+  child-place v h e k = rw e (row-place v v _ _ (child-word-stands (treeOf file) s (r .ready .words) v h) k)
+
+  -- ---- what it holds
+
+  -- the line of a row of children of p after v, where u is their ancestor at depth a
+  row-line : (v p c a u : ℕ) → a ≤ sizes .height → i ≤ lineNumber sizes (v + 1) 0 → NoneOrChild (treeOf file) v p c
+      → (0 < c → treeOf file .parent c ≡ p → (a < depth (treeOf file) c) × (ancestorAt (treeOf file) c a ≡ u))
+      → lineIn sizes s c a ≡ map (bestAt (treeOf file) (demandOf file) c u) (range 0 (width sizes))
+  unfolding FilledFrom
+  row-line v p c a u h k (inl e) f =
+      r .lines c a (omega (arith, room-count (r .ready .room), room-sound (r .ready .room) .some)) h (inl e) (inl e)
+      ∙ line-under (treeOf file) (demandOf file) (width sizes) c a u (inl e)
+  row-line v p c a u h k (inr g) f =
+      let m = f (omega arith) (g .2) in
+      let later : v < c = g .0 in
+      r .lines c a (omega (arith, room-count (r .ready .room))) h (inr (m .0))
+      (inr (omega (arith, row-before (sizes .height + 1) later)))
+      ∙ line-under (treeOf file) (demandOf file) (width sizes) c a u (inr (m .1))
+
+  module _ (v : ℕ) (node : v < countOf file) (before : i ≤ lineNumber sizes (v + 1) 0) where
+    pre : Preorder (treeOf file)
+    pre = room-sound (r .ready .room) .preorder
+
+    -- the children of v under the ancestor of v at depth a, v itself at its own depth
+    children-line : (a : ℕ) → a ≤ depth (treeOf file) v
+        → lineIn sizes s (firstChild (treeOf file) v) a
+        ≡ map (bestAt (treeOf file) (demandOf file) (firstChild (treeOf file) v) (ancestorAt (treeOf file) v a)) (range 0 (width sizes))
+    children-line a h =
+        let t = treeOf file in
+        let deep = room-depth (r .ready .room) {v = v} (omega (arith, room-count (r .ready .room))) in
+        row-line v v (firstChild t v) a (ancestorAt t v a) (omega arith) before (first-child-stands t v)
+        (λ some e. (omega (arith, child-depth t pre (firstChild t v) v some e), child-ancestor t pre (firstChild t v) v a some e h))
+
+    -- the later siblings of v under it
+    siblings-line : (a : ℕ) → 0 < v → a < depth (treeOf file) v
+        → lineIn sizes s (nextSibling (treeOf file) v) a
+        ≡ map (bestAt (treeOf file) (demandOf file) (nextSibling (treeOf file) v) (ancestorAt (treeOf file) v a)) (range 0 (width sizes))
+    siblings-line a site h =
+        let t = treeOf file in
+        let deep = room-depth (r .ready .room) {v = v} (omega (arith, room-count (r .ready .room))) in
+        row-line v (t .parent v) (nextSibling t v) a (ancestorAt t v a) (omega arith) before (next-sibling-stands t v)
+        (λ some e. (omega (arith, sibling-depth t pre (nextSibling t v) v some site e), sibling-ancestor t pre (nextSibling t v) v a some site e h))
+
+  -- ---- a node and the one that serves it from above
+
+  module _ {v a u : ℕ} (at : Served (treeOf file) v a u) where
+    -- where they stand
+    pub served-node : v < sizes .nodes
+    served-node = omega (arith, at .node, room-count (r .ready .room))
+
+    pub served-above : a ≤ sizes .height
+    served-above = omega (arith, at .above, room-depth (r .ready .room) served-node)
+
+    pub served-room : HasNode s v
+    served-room = ready-node (r .ready) served-node
+
+    pub served-place : InTable sizes v a
+    served-place = room-place (r .ready .room) served-node served-above
+
+    pub served-width : sizes .budget < mostWidth
+    served-width = omega (arith, served-place .budget)
+
+    -- and those of its children and its later siblings
+    pub children-place : {child : ℕ} → child ≡ wordOf s v childWord → InTable sizes child a × (tableEnd sizes ≤ length s)
+    children-place e = child-place v (at .node) e served-above
+
+    pub own-place : {child deep : ℕ} → child ≡ wordOf s v childWord → deep ≡ wordOf s v depthWord → InTable sizes child deep × (tableEnd sizes ≤ length s)
+    own-place e f = rw (f, r .ready .words .depth v (at .node)) (child-place v (at .node) e (room-depth (r .ready .room) served-node))
+
+    pub siblings-place : {sibling : ℕ} → sibling ≡ wordOf s v siblingWord → InTable sizes sibling a × (tableEnd sizes ≤ length s)
+    siblings-place e =
+        rw e (row-place v (treeOf file .parent v) _ a (sibling-word-stands (treeOf file) s (r .ready .words) v (at .node) (at .site)) served-above)
+
+    -- what serves it: itself as a cache, or that node
+    pub served-itself : Client file s v v
+    served-itself = ready-client (r .ready) served-node (le-refl v) (le-refl _)
+
+    pub served-above-it : Client file s v u
+    served-above-it =
+        let t = treeOf file in
+        let pre = room-sound (r .ready .room) .preorder in
+        let h : a ≤ depth t v = omega (arith, at .above) in
+        rw (at .server) (ready-client (r .ready) served-node (ancestor-before t pre v a h) (ancestor-nearer t pre v a h))
+
+    -- the three lines that its own is made from, and that a walk reads
+    pub lines-known : {child sibling deep : ℕ} {taken spare rest : List ℕ}
+        → i ≤ lineNumber sizes (v + 1) 0 → child ≡ wordOf s v childWord → sibling ≡ wordOf s v siblingWord → deep ≡ wordOf s v depthWord
+        → taken ≡ lineIn sizes s child deep → spare ≡ lineIn sizes s child a → rest ≡ lineIn sizes s sibling a
+        → Known (width sizes) (childrenAt (treeOf file) (demandOf file) v u)
+        (bestAt (treeOf file) (demandOf file) (nextSibling (treeOf file) v) u) taken spare rest
+    lines-known before c b e x y z =
+        let t = treeOf file in
+        let words = r .ready .words in
+        let child = c ∙ words .child v (at .node) in
+        let own = ancestor-self t (room-sound (r .ready .room) .preorder) v in
+        record {
+          taken-is = x ∙ rw (child, e, words .depth v (at .node)) (rw own at (children-line v (at .node) before (depth t v) (le-refl _)));
+          spare-is = y ∙ rw (child, at .server) (children-line v (at .node) before a (omega (arith, at .above)));
+          rest-is = z ∙ rw (b, words .sibling v (at .site) (at .node), at .server) (siblings-line v (at .node) before a (at .site) (at .above));
+        }
+
+-- the line after (v, a) is none after those of v
+pub next-before : {file : List ℕ} {sizes : code.Tree} {s : List ℕ} {v a u i : ℕ} → TableFrom file sizes s i → Served (treeOf file) v a u
+    → lineNumber sizes v a + 1 ≤ lineNumber sizes (v + 1) 0
+next-before r at = omega (arith, served-above r at)
+
+-- in the whole table, the row of the server's children, and so of every site
+pub server-line : {file : List ℕ} {sizes : code.Tree} {s : List ℕ} {child : ℕ} {l : List ℕ} → Table file sizes s
+    → child ≡ wordOf s 0 childWord → l ≡ lineIn sizes s child 0
+    → l ≡ map (bestAt (treeOf file) (demandOf file) (firstChild (treeOf file) 0) 0) (range 0 (width sizes))
+server-line {file} r c e =
+    let t = treeOf file in
+    let ok = room-sound (r .ready .room) in
+    e ∙ rw (c, r .ready .words .child 0 (ok .some)) (rw (ancestor-server t (ok .preorder) 0) at (children-line r 0 (ok .some) (omega arith) 0 (omega arith)))
