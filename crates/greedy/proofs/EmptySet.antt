@@ -1,0 +1,72 @@
+-- The total of the empty set: each client's whole flow over its distance.
+use mathlib.Core.Path.{_≡_, refl, ap, _∙_}
+use mathlib.Core.List.{List, []}
+use Prim.Native.Nat.{ℕ, suc, _+_, _*_, _-_, _≤_, _<_, _^_}
+use native.Mathlib.Nat.{mul-assoc, zero-add}
+use native.Mathlib.Numerals.{add-one}
+use native.Mathlib.Omega.{arith}
+use Rattle.laws.specs.Lists.{range, sum, has}
+use Rattle.laws.proofs.Sums.{sum-snoc, sum-fewer}
+use Rattle.model.specs.File.{Tree, Demand, treeOf, demandOf}
+use Rattle.model.specs.Tree.{distance}
+use Rattle.model.specs.Bill.{thousandths, price, cost, total, serving}
+use Rattle.model.proofs.Routes.{Preorder, by-route, distance-server}
+use Rattle.model.proofs.Nearest.{serving-server, serving-up, cost-is}
+use Rattle.model.proofs.Accepted.{Sound}
+use Rattle.model.proofs.Bounds.{total-bound}
+use Rattle.node_words.specs.Words.{distanceWord, wordOf}
+use Rattle.node_words.proofs.Words.{room-sound}
+use Rattle.greedy.specs.Words.{Ready}
+
+-- the server serves every client
+serving-of-none : (t : Tree) → Preorder t → (v : ℕ) → serving t [] v ≡ 0
+unfolding has
+serving-of-none t pre =
+    by-route t pre (λ v. serving t [] v ≡ 0) (serving-server t pre []) (λ i h. serving-up t pre [] i ∙ h)
+
+cost-of-none : (t : Tree) (d : Demand) → Sound t d → (c : ℕ) → d .flow c * thousandths * distance t c ≡ cost t d [] c
+unfolding price
+cost-of-none t d ok c =
+    let whole : thousandths * distance t c - d .hit c * 0 ≡ thousandths * distance t c = omega arith in
+    rw (cost-is t (ok .preorder) [] d c, serving-of-none t (ok .preorder) c, distance-server t (ok .server), whole)
+    (mul-assoc (d .flow c) thousandths (distance t c))
+
+module _ {file : List ℕ} {n : ℕ} {words : List ℕ} (ready : Ready file n words) where
+  abbrev costs : ℕ → ℕ
+  costs = cost (treeOf file) (demandOf file) []
+
+  -- the costs of the nodes before v
+  abbrev pub Summed : ℕ → ℕ → Type 0
+  Summed v held = (v ≤ n) × (held ≡ sum costs (range 0 v))
+
+  pub summed-none : Summed 0 0
+  unfolding sum range
+  summed-none = (omega arith, refl)
+
+  module _ {v held f x : ℕ} (s : Summed v held) (below : v < n) (ef : f ≡ demandOf file .flow v * thousandths) (ex : x ≡ wordOf words v distanceWord) where
+    cost-here : f * x ≡ costs v
+    cost-here = rw (ef, ex, ready .distances v below) (cost-of-none (treeOf file) (demandOf file) (room-sound (ready .room)) v)
+
+    more : sum costs (range 0 (suc v)) ≡ held + f * x
+    more = sum-snoc costs 0 v ∙ (rw (zero-add v, cost-here, s .1))
+
+    -- no sum on the way exceeds the total
+    pub summed-small : held + f * x < 2 ^ 62
+    unfolding total
+    summed-small =
+        let ok = room-sound (ready .room) in
+        omega (
+          arith,
+          more,
+          sum-fewer costs 0 (suc v) (treeOf file .count) (omega (arith, ready .room .count)),
+          total-bound (treeOf file) (demandOf file) ok [],
+        )
+
+    pub summed-next : {y : ℕ} → y ≡ held + f * x → Summed (v + 1) y
+    summed-next e = (omega arith, rw (add-one v) (omega (arith, more)))
+
+  pub summed-all : {v held : ℕ} → Summed v held → n ≤ v → held ≡ total (treeOf file) (demandOf file) []
+  unfolding total
+  summed-all {v} s h =
+      let whole : v ≡ treeOf file .count = omega (arith, ready .room .count) in
+      s .1 ∙ ap (λ (m : ℕ). sum costs (range 0 m)) whole

@@ -1,0 +1,3 @@
+pub mod Savings
+pub mod Words
+pub mod Run

@@ -1,0 +1,23 @@
+-- What a run of the greedy rule is lent, and what it leaves.
+use mathlib.Core.Path.{_≡_}
+use mathlib.Core.List.{List}
+use Prim.Native.Nat.{ℕ, _+_, _*_, _≤_}
+use lib.ListN.{length}
+use Rattle.laws.specs.Fronts.{FrontOnly}
+use Rattle.model.specs.File.{budgetOf}
+use Rattle.model.specs.Rules.{passed}
+use Rattle.model.specs.Calls.{after, greedyTotals, greedyRow}
+use Rattle.node_words.specs.Words.{NodeRoom}
+
+-- an accepted file of n nodes and budget k, and room for all that is written
+pub record Granted (file : List ℕ) (n k : ℕ) (words totals taken : List ℕ) : Type 0 where
+  pub room : NodeRoom file n words
+  pub budget : k ≡ budgetOf file
+  pub totalsLong : k + 1 ≤ length totals
+  pub takenLong : k ≤ length taken
+
+-- the greedy rule's totals and nodes stand in their buffers, and of the scratch only the words of the nodes were used
+pub record Ran (file : List ℕ) (n : ℕ) (words totals taken words′ totals′ taken′ : List ℕ) : Type 0 where
+  pub front : FrontOnly (4 * n) words words′
+  pub totalsAfter : totals′ ≡ after passed (greedyTotals file) totals
+  pub takenAfter : taken′ ≡ after passed (greedyRow file) taken
