@@ -1,0 +1,34 @@
+-- `check_trees` keeps its contract.
+use Prim.Native.Nat.{_-_, _≤_}
+use borrow.Author.Needs.{needs}
+use Rattle.optimum_trials.proofs.check_trees.Statement.{statement}
+use Rattle.optimum_trials.proofs.check_trees.Tie as tie
+
+abbrev Inv-loop : tie.InvT-loop
+Inv-loop i₀ i = i ≤ 6000
+
+abbrev μ-loop : tie.MeasureT-loop
+μ-loop i₀ i = 6000 - i
+
+loop-holds : tie.Need-loop-holds Inv-loop μ-loop
+loop-holds c = search needs
+
+check-tree-requires : tie.Need-check-tree-requires Inv-loop μ-loop
+check-tree-requires c κs = search needs
+
+add-i : tie.Need-add-i Inv-loop μ-loop
+add-i c = search needs
+
+loop-less : tie.Need-loop-less Inv-loop μ-loop
+loop-less c = search needs
+
+loop-again : tie.Need-loop-again Inv-loop μ-loop
+loop-again c = search needs
+
+returns : tie.Need-returns Inv-loop μ-loop
+returns c = search needs
+
+pub check-trees-spec : {M : Type 1} → statement M
+check-trees-spec =
+    tie.close
+    (tie.spec Inv-loop μ-loop loop-holds check-tree-requires add-i loop-less loop-again returns)

@@ -1,0 +1,367 @@
+// Trees of at most six nodes with their files, sets of their nodes as masks, and a fixed sequence of such trees.
+//
+// Nothing here is shared with the planner. A set is a mask with bit v for node v.
+ghost use Prim.Native.Nat.{_≤_};
+ghost use lib.ListN.{length};
+
+// What a tree file says of a node.
+pub struct Record {
+    parent: u16,
+    pub length: u16,
+    pub flow: u32,
+    pub hit: u16,
+}
+
+// A tree, with zeros for the nodes that it lacks.
+pub struct SmallTree {
+    pub nodes: usize,
+    pub budget: usize,
+    records: [Record; 6],
+}
+
+// The record of a node that the tree lacks.
+const NO_RECORD: Record = Record {
+    parent: 0,
+    length: 0,
+    flow: 0,
+    hit: 0,
+};
+
+// What the tree says of node v.
+pub fn record_of(tree: SmallTree, v: usize) -> Record {
+    if v < 6 {
+        return tree.records[v];
+    }
+    NO_RECORD
+}
+
+// ---- sets
+
+// The bit of each node.
+const BITS: [u8; 6] = [1, 2, 4, 8, 16, 32];
+
+// The set of one node.
+pub fn only(v: usize) -> u8 {
+    if v < 6 {
+        return BITS[v];
+    }
+    0
+}
+
+// Is v in the set?
+pub fn has(set: u8, v: usize) -> bool {
+    set & only(v) != 0
+}
+
+// The set with one node more.
+pub fn with(set: u8, v: usize) -> u8 {
+    set | only(v)
+}
+
+// How many nodes a set has.
+pub fn size(set: u8) -> u32 {
+    u32::count_ones(set as u32)
+}
+
+// Member i of a set in ascending order, counted from 0, and 0 past the last.
+pub fn member(set: u8, i: usize) -> usize {
+    let mut left = i;
+    let mut v = 0;
+    while v < 6 {
+        if has(set, v) {
+            if left == 0 {
+                return v;
+            }
+            left -= 1;
+        }
+        v += 1;
+    }
+    0
+}
+
+// Writes the members of a set, ascending and as many as fit, at the start of `out`, and answers how many there are.
+pub fn write_set(set: u8, out: &mut [u16]) -> usize
+    ensures { λ r. ⌜ r ≤ length (now (out .exit)) ⌝ }
+{
+    let members = size(set) as usize;
+    let mut end = 0;
+    while end < members {
+        if out.len() <= end {
+            return end;
+        }
+        out[end] = (member(set, end) % 6) as u16;
+        end += 1;
+    }
+    end
+}
+
+// ---- routes
+
+// The parent of v, 0 of the server.
+fn parent(tree: SmallTree, v: usize) -> usize {
+    record_of(tree, v).parent as usize
+}
+
+// The nodes on the route of c: itself, its parent, and so on to the server.
+pub fn route(tree: SmallTree, c: usize) -> u8 {
+    let second = parent(tree, c);
+    let third = parent(tree, second);
+    let fourth = parent(tree, third);
+    let fifth = parent(tree, fourth);
+    only(c) | only(second) | only(third) | only(fourth) | only(fifth) | only(0)
+}
+
+// ---- the tree file
+
+// A byte of a file, 0 past its end.
+fn byte(file: &[u8], at: usize) -> u8 {
+    if at < file.len() {
+        return file[at];
+    }
+    0
+}
+
+// The number of two bytes.
+fn pair(file: &[u8], at: usize) -> u16
+    requires { ⌜ at ≤ 100 ⌝ }
+{
+    byte(file, at) as u16 * 256 + byte(file, at + 1) as u16
+}
+
+// What a file says of node v, zeros past its end.
+fn read_record(file: &[u8], v: usize) -> Record
+    requires { ⌜ v ≤ 5 ⌝ }
+{
+    let at = 9 + 10 * v;
+    let parent = pair(file, at);
+    let length = pair(file, at + 2);
+    let flow = pair(file, at + 4) as u32 * 65536 + pair(file, at + 6) as u32;
+    let hit = pair(file, at + 8);
+    Record {
+        parent,
+        length,
+        flow,
+        hit,
+    }
+}
+
+// The tree of an accepted file of at most six nodes.
+pub fn read_file(file: &[u8]) -> SmallTree {
+    let records = [
+        read_record(file, 0),
+        read_record(file, 1),
+        read_record(file, 2),
+        read_record(file, 3),
+        read_record(file, 4),
+        read_record(file, 5),
+    ];
+    SmallTree {
+        nodes: pair(file, 5) as usize,
+        budget: pair(file, 7) as usize,
+        records,
+    }
+}
+
+// The header of the tree's file.
+fn header(tree: SmallTree) -> [u8; 9] {
+    let nodes = tree.nodes;
+    let budget = tree.budget;
+    [
+        b'K',
+        b'T',
+        b'R',
+        0,
+        1,
+        (nodes / 256 % 256) as u8,
+        (nodes % 256) as u8,
+        (budget / 256 % 256) as u8,
+        (budget % 256) as u8,
+    ]
+}
+
+// The ten bytes of a record.
+fn record_bytes(record: Record) -> [u8; 10] {
+    let parent = record.parent;
+    let length = record.length;
+    let flow = record.flow;
+    let hit = record.hit;
+    [
+        (parent / 256) as u8,
+        (parent % 256) as u8,
+        (length / 256) as u8,
+        (length % 256) as u8,
+        (flow / 16777216) as u8,
+        (flow / 65536 % 256) as u8,
+        (flow / 256 % 256) as u8,
+        (flow % 256) as u8,
+        (hit / 256) as u8,
+        (hit % 256) as u8,
+    ]
+}
+
+// A byte of the tree's file.
+fn file_byte(tree: SmallTree, at: usize) -> u8 {
+    if at < 9 {
+        let bytes = header(tree);
+        return bytes[at];
+    }
+    let place = (at - 9) % 10;
+    let bytes = record_bytes(record_of(tree, (at - 9) / 10));
+    bytes[place]
+}
+
+// The size of the tree's file, at most 69 bytes.
+fn file_size(tree: SmallTree) -> usize {
+    if tree.nodes <= 6 {
+        return 9 + 10 * tree.nodes;
+    }
+    69
+}
+
+// Writes the tree's file, as much as fits, at the start of `out`, and answers how many bytes there are.
+pub fn write_file(tree: SmallTree, out: &mut [u8]) -> usize
+    ensures { λ r. ⌜ r ≤ length (now (out .exit)) ⌝ }
+{
+    let size = file_size(tree);
+    let mut end = 0;
+    while end < size {
+        if out.len() <= end {
+            return end;
+        }
+        out[end] = file_byte(tree, end);
+        end += 1;
+    }
+    end
+}
+
+// ---- a sequence of trees
+
+// The numbers of nodes, by turns.
+const COUNTS: [usize; 12] = [1, 2, 3, 4, 5, 5, 5, 6, 6, 6, 6, 6];
+
+// The next number of a congruential sequence.
+fn after(number: u64) -> u64 {
+    number % 2147483647 * 48271 % 2147483647
+}
+
+// The styles from here on have clients only at nodes without children.
+const LEAVES: u64 = 27;
+
+// A style: 27 with clients anywhere, and as often one of four with clients at leaves, positive values and hit 1,000.
+fn style_by(number: u64) -> u64 {
+    let style = number % 54;
+    if style < LEAVES {
+        return style;
+    }
+    LEAVES + style % 2 + style / 2 % 2 * 3
+}
+
+// By style: 1; 1 or 2; 0, 1 or 2.
+fn value(number: u64, style: u64) -> u64
+    ensures { λ r. ⌜ r ≤ 2 ⌝ }
+{
+    let choice = style % 3;
+    if choice == 0 {
+        return 1;
+    }
+    if choice == 1 {
+        return 1 + number % 2;
+    }
+    number % 3
+}
+
+// A length for node v; the server has none.
+fn length_by(v: usize, number: u64, style: u64) -> u64
+    ensures { λ r. ⌜ r ≤ 2 ⌝ }
+{
+    if v == 0 {
+        return 0;
+    }
+    value(number, style)
+}
+
+// By style: 1,000; 1,000 or 500; 0, 1,000 or 500.
+fn hit_by(number: u64, style: u64) -> u64
+    ensures { λ r. ⌜ r ≤ 1000 ⌝ }
+{
+    let choice = value(number, style);
+    if choice == 1 {
+        return 1000;
+    }
+    250 * choice
+}
+
+// A parent for node v: a node on the route of node v - 1.
+fn parent_by(tree: SmallTree, v: usize, number: u64) -> u16 {
+    if v == 0 {
+        return 0;
+    }
+    let way = route(tree, v - 1);
+    let choices = size(way) as u64;
+    if choices == 0 {
+        return 0;
+    }
+    (member(way, (number % choices) as usize) % 6) as u16
+}
+
+// A record for node v of a tree that has those before it.
+fn record_by(tree: SmallTree, v: usize, number: u64, style: u64) -> Record {
+    Record {
+        parent: parent_by(tree, v, number),
+        length: length_by(v, number / 60, style) as u16,
+        flow: value(number / 360, style / 3) as u32,
+        hit: hit_by(number / 2160, style / 9) as u16,
+    }
+}
+
+// The tree with this record for node v.
+fn with_record(tree: SmallTree, v: usize, record: Record) -> SmallTree {
+    let mut next = tree;
+    if v < 6 {
+        next.records[v] = record;
+    }
+    next
+}
+
+// The tree with no flow at v.
+fn without_client(tree: SmallTree, v: usize) -> SmallTree {
+    let mut record = record_of(tree, v);
+    record.flow = 0;
+    with_record(tree, v, record)
+}
+
+// A tree with a record for node v, if it has that node.
+fn grown(tree: SmallTree, v: usize, number: u64, style: u64) -> SmallTree {
+    if tree.nodes <= v {
+        return tree;
+    }
+    let record = record_by(tree, v, number, style);
+    if style < LEAVES {
+        return with_record(tree, v, record);
+    }
+    with_record(without_client(tree, record.parent as usize), v, record)
+}
+
+// A tree whose records are still to come.
+fn bare_tree(nodes: usize, budget: usize) -> SmallTree {
+    SmallTree {
+        nodes,
+        budget,
+        records: [NO_RECORD; 6],
+    }
+}
+
+// Tree i of a fixed sequence: 1 to 6 nodes, a budget from 0 to 6, and records by the numbers that follow i.
+pub fn nth_tree(i: u64) -> SmallTree {
+    let place = (i % 12) as usize;
+    let mut number = after(after(i % 1000000 + 1));
+    let style = style_by(number / 7);
+    let mut tree = bare_tree(COUNTS[place], (number % 7) as usize);
+    let mut v = 0;
+    while v < 6 {
+        number = after(number);
+        tree = grown(tree, v, number, style);
+        v += 1;
+    }
+    tree
+}
