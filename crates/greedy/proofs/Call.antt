@@ -2,7 +2,7 @@
 use mathlib.Core.Path.{_≡_, refl, sym, ap, ap₂, _∙_}
 use mathlib.Core.Bool.{Bool, true, false, _&&_}
 use mathlib.Core.List.{List}
-use Prim.Native.Nat.{ℕ, _+_, _*_, _≤_}
+use Prim.Native.Nat.{ℕ, suc, _*_, _≤_}
 use native.Mathlib.Numerals.{add-one}
 use native.Mathlib.Omega.{arith}
 use lib.Dec.{leb}
@@ -10,7 +10,7 @@ use lib.ListN.{length}
 use borrow.Author.Tests.{leb-true}
 use Rattle.laws.proofs.Bools.{both}
 use Rattle.laws.proofs.Fronts.{front-only-past}
-use Rattle.model.specs.File.{countOf, budgetOf}
+use Rattle.model.specs.File.{countOf}
 use Rattle.model.specs.Rules.{passed, broken, _then_, scratchWords, askBuffers}
 use Rattle.model.specs.Calls.{answered, refused, answer, greedyBuffersLong, greedyVerdict, GreedyCall}
 use Rattle.fields.specs.declared.Tree as code
@@ -19,7 +19,8 @@ use Rattle.lent.specs.Lent.{lentVerdict}
 use Rattle.lent.proofs.Asked.{answered-passed, refused-broken, lent-accepted, then-buffers}
 use Rattle.greedy.specs.Run.{Granted, Ran}
 
-nodes-fit : (file : List ℕ) → 4 * countOf file ≤ scratchWords file
+-- the words of the nodes are among those that rule 13 asks for
+pub nodes-fit : (file : List ℕ) → 4 * countOf file ≤ scratchWords file
 unfolding scratchWords
 nodes-fit file = omega arith
 
@@ -44,9 +45,9 @@ module _ (file scratch totals taken : List ℕ) where
     sizes-are : sizes ≡ sizesOf file
     sizes-are = answered-passed (lentVerdict file (length scratch)) (sizesOf file) e .1
 
-    module _ {long : Bool} (l : long ≡ (leb (sizes .budget + 1) (length totals) && leb (sizes .budget) (length taken))) where
+    module _ {long : Bool} (l : long ≡ (leb (suc (sizes .budget)) (length totals) && leb (sizes .budget) (length taken))) where
       long-is : long ≡ greedyBuffersLong file totals taken
-      long-is = rw (sizes-are, add-one (budgetOf file)) at l
+      long-is = rw sizes-are at l
 
       verdict-is : {b : Bool} → long ≡ b → greedyVerdict file scratch totals taken ≡ askBuffers b
       unfolding greedyVerdict
@@ -61,7 +62,7 @@ module _ (file scratch totals taken : List ℕ) where
       pub call-granted : long ≡ true → Granted file (sizes .nodes) (sizes .budget) scratch totals taken
       call-granted h =
           let ok = lent-accepted file (length scratch) lent-passed in
-          let fit = both (leb (sizes .budget + 1) (length totals)) (leb (sizes .budget) (length taken)) (sym l ∙ h) in
+          let fit = both (leb (suc (sizes .budget)) (length totals)) (leb (sizes .budget) (length taken)) (sym l ∙ h) in
           record {
             room = record {
               accepted = ok .0;
@@ -69,7 +70,7 @@ module _ (file scratch totals taken : List ℕ) where
               room = rw sizes-are (omega (arith, ok .1, nodes-fit file));
             };
             budget = ap (λ x. x .budget) sizes-are;
-            totalsLong = leb-true (sizes .budget + 1) (length totals) (fit .0);
+            totalsLong = rw (add-one (sizes .budget)) (leb-true _ _ (fit .0));
             takenLong = leb-true (sizes .budget) (length taken) (fit .1);
           }
 

@@ -7,7 +7,7 @@ use units::Total;
 ghost use mathlib.Core.Path.{_≡_};
 ghost use mathlib.Core.Bool.{false, _&&_};
 ghost use mathlib.Core.List.{[]};
-ghost use Prim.Native.Nat.{_+_, _*_, _-_, _≤_, _<_, _^_};
+ghost use Prim.Native.Nat.{suc, _+_, _*_, _-_, _≤_, _<_, _^_};
 ghost use lib.Dec.{leb};
 ghost use lib.ListN.{length};
 ghost use Rattle.laws.specs.FirstGreatest.{FirstGreatest};
@@ -231,9 +231,10 @@ pub fn run(
 
 // ---- the call
 
-fn buffers_long(k: usize, totals: usize, taken: usize) -> bool
+// Rule 14: k + 1 totals, and k nodes.
+pub fn buffers_long(k: usize, totals: usize, taken: usize) -> bool
     requires { ⌜ k ≤ mostBudget ⌝ }
-    ensures { λ r. ⌜ r ≡ (leb (k + 1) totals && leb k taken) ⌝ }
+    ensures { λ r. ⌜ r ≡ (leb (suc k) totals && leb k taken) ⌝ }
 {
     if totals < k + 1 {
         return false;

@@ -1,8 +1,8 @@
 -- What an answer says of the verdict behind it, and rules 13 and 14 after rules 1 to 11.
 use mathlib.Core.Path.{_≡_, refl}
-use mathlib.Core.Bool.{Bool}
+use mathlib.Core.Bool.{Bool, false, _&&_}
 use mathlib.Core.List.{List}
-use Prim.Native.Nat.{ℕ, _+_, _*_, _≤_, _<_}
+use Prim.Native.Nat.{ℕ, suc, _+_, _*_, _≤_, _<_}
 use native.Mathlib.Nat.{mul-le-mul}
 use native.Mathlib.Omega.{arith}
 use lib.Dec.{leb}
@@ -97,3 +97,11 @@ pub then-buffers : (file scratch : List ℕ) (long : Bool)
     → (fileVerdict file then askScratch file scratch then askBuffers long) ≡ (lentVerdict file (length scratch) then askBuffers long)
 unfolding lentVerdict
 then-buffers file scratch long = then-grouped (fileVerdict file) (askScratch file scratch) (askBuffers long)
+
+-- k + 1 totals, as they are asked before the rest of a call's buffers
+module _ (k totals : ℕ) (rest : Bool) where
+  pub totals-short : totals < k + 1 → false ≡ (leb (suc k) totals && rest)
+  totals-short h = rw (lt-leb (suc k) totals (omega arith))
+
+  pub totals-long : k + 1 ≤ totals → rest ≡ (leb (suc k) totals && rest)
+  totals-long h = rw (le-leb (suc k) totals (omega arith))

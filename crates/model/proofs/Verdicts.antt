@@ -5,7 +5,7 @@ use Prim.Native.Nat.{ℕ}
 use native.Mathlib.Omega.{arith}
 use Rattle.model.specs.Rules.{Verdict, passed, broken, ask, _then_, isPassed}
 
-broken≢passed : {q i : ℕ} → broken q i ≡ passed → ⊥
+pub broken≢passed : {q i : ℕ} → broken q i ≡ passed → ⊥
 broken≢passed e = let z : _≡_ {A = ℕ} 0 1 = cc in omega arith
 
 pub ask-passed : (q i : ℕ) (b : Bool) → ask q i b ≡ passed → b ≡ true

@@ -2,26 +2,26 @@
 use mathlib.Core.Path.{_≡_, refl, sym, _∙_}
 use mathlib.Core.Bool.{Bool, true, false, _&&_}
 use mathlib.Core.List.{List}
-use Prim.Native.Nat.{ℕ, suc, _+_, _*_, _≤_, _<_}
+use Prim.Native.Nat.{ℕ, suc, _+_, _*_, _≤_}
 use native.Mathlib.Nat.{mul-le-mul}
 use native.Mathlib.Numerals.{add-one}
 use native.Mathlib.Omega.{arith}
 use lib.Dec.{leb}
 use lib.ListN.{length}
 use lib.Seq.{sets}
-use borrow.Author.Tests.{leb-true, le-leb, lt-leb}
+use borrow.Author.Tests.{leb-true}
 use Rattle.laws.specs.Fronts.{FrontOnly}
 use Rattle.laws.proofs.Bools.{both}
 use Rattle.laws.proofs.Stores.{sets-front}
 use Rattle.model.specs.File.{budgetOf, mostBudget}
 use Rattle.model.specs.Rules.{passed, broken, _then_, fileVerdict, scratchWords, askBuffers}
-use Rattle.model.specs.Calls.{answered, refused, answer, planTotals, planRows, planBuffersLong, planVerdict, PlanCall}
+use Rattle.model.specs.Calls.{answered, refused, answer, after, planTotals, planRows, planBuffersLong, planVerdict, PlanCall}
 use Rattle.model.proofs.Accepted.{accepted-header}
 use Rattle.model.proofs.Written.{length-plan-totals, length-plan-rows}
 use Rattle.fields.specs.declared.Tree as code
 use Rattle.tree_file.specs.Checks.{sizesOf}
 use Rattle.lent.specs.Lent.{lentVerdict}
-use Rattle.lent.proofs.Asked.{answered-passed, refused-broken, lent-accepted, then-buffers}
+use Rattle.lent.proofs.Asked.{answered-passed, refused-broken, lent-accepted, then-buffers, totals-long}
 use Rattle.table.specs.Table.{TableRoom}
 use Rattle.optimum.specs.Budgets.{Buffers}
 
@@ -39,6 +39,16 @@ module _ (file scratch : List ℕ) {sizes : code.Tree} (e : answered sizes ≡ a
 
   pub plan-budget-fits : sizes .budget ≤ mostBudget
   plan-budget-fits = rw (told .1) (accepted-header file accepted .budget)
+
+-- ---- what is written stands in front of the entries beyond it
+
+module _ {file totals rows : List ℕ} (l : Buffers file totals rows) where
+  pub totals-after : {totals′ : List ℕ} → totals′ ≡ sets totals 0 (planTotals file) → totals′ ≡ after passed (planTotals file) totals
+  totals-after e = e ∙ sets-front totals (planTotals file) (omega (arith, length-plan-totals file, l .totalsLong))
+
+  pub rows-after : {rows′ : List ℕ} → rows′ ≡ sets rows 0 (planRows file) → rows′ ≡ after passed (planRows file) rows
+  rows-after e =
+      e ∙ sets-front rows (planRows file) (omega (arith, length-plan-rows file, rw (add-one (budgetOf file)) at (l .rowsLong)))
 
 -- ---- each answer
 
@@ -82,22 +92,17 @@ module _ (file scratch totals rows : List ℕ) where
           → totals′ ≡ sets totals 0 (planTotals file) → rows′ ≡ sets rows 0 (planRows file)
           → PlanCall file scratch totals rows passed scratch′ totals′ rows′
       plan-written s t r =
-          let k = add-one (budgetOf file) in
           record {
             verdict = sym (verdict-is ∙ rw (sized .0, long));
             scratchAfter = (s .long, s .rest);
-            totalsAfter = t ∙ sets-front totals (planTotals file) (omega (arith, length-plan-totals file, plan-long .totalsLong));
-            rowsAfter = r ∙ sets-front rows (planRows file) (omega (arith, length-plan-rows file, rw k at (plan-long .rowsLong)));
+            totalsAfter = totals-after plan-long t;
+            rowsAfter = rows-after plan-long r;
           }
 
 -- ---- rule 14, as it is asked
 
-module _ (k totals rows : ℕ) where
-  pub totals-short : totals < k + 1 → false ≡ (leb (suc k) totals && leb (suc k * k) rows)
-  totals-short h = rw (lt-leb (suc k) totals (omega arith))
-
-  pub totals-long : k + 1 ≤ totals → leb ((k + 1) * k) rows ≡ (leb (suc k) totals && leb (suc k * k) rows)
-  totals-long h = rw (le-leb (suc k) totals (omega arith), add-one k)
+pub rows-asked : (k totals rows : ℕ) → k + 1 ≤ totals → leb ((k + 1) * k) rows ≡ (leb (suc k) totals && leb (suc k * k) rows)
+rows-asked k totals rows h = rw (add-one k) (totals-long k totals (leb (suc k * k) rows) h)
 
 pub rows-small : {k : ℕ} → k ≤ mostBudget → (k + 1) * k ≤ (mostBudget + 1) * mostBudget
 rows-small h = mul-le-mul {n₂ = mostBudget + 1} (omega arith) h

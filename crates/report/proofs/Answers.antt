@@ -1,0 +1,125 @@
+-- The report call, answer by answer: a refusal writes nothing, and what is written meets demand 3.
+use mathlib.Core.Path.{_≡_, refl, sym, ap, ap₂, _∙_}
+use mathlib.Core.Bool.{Bool, true, false, _&&_}
+use mathlib.Core.List.{List}
+use Prim.Native.Nat.{ℕ, suc, _*_, _≤_}
+use native.Mathlib.Omega.{arith}
+use lib.Dec.{leb}
+use lib.ListN.{length}
+use lib.Seq.{sets}
+use Rattle.laws.specs.Fronts.{FrontOnly}
+use Rattle.laws.proofs.Bools.{both}
+use Rattle.laws.proofs.Fronts.{front-only-then, front-only-wider}
+use Rattle.model.specs.Rules.{passed, broken, _then_, fileVerdict, scratchWords, askBuffers}
+use Rattle.model.specs.Calls.{answered, refused, answer, planTotals, planRows, planBuffersLong, greedyBuffersLong}
+use Rattle.model.specs.Report.{reportVerdict, ReportCall}
+use Rattle.model.proofs.Verdicts.{broken≢passed}
+use Rattle.model.proofs.Reported.{report-meets-demand}
+use Rattle.fields.specs.declared.Tree as code
+use Rattle.tree_file.specs.Checks.{sizesOf}
+use Rattle.lent.specs.Lent.{lentVerdict}
+use Rattle.lent.proofs.Asked.{answered-passed, refused-broken, lent-accepted, then-buffers}
+use Rattle.optimum.proofs.Answers.{plan-room, plan-long, totals-after, rows-after}
+use Rattle.greedy.specs.Run.{Granted, Ran}
+use Rattle.greedy.proofs.Call.{nodes-fit, call-granted}
+use Rattle.report.specs.Made.{Lent, Made}
+
+-- ---- both answers
+
+-- greedy's room is the same after the plan was made in the scratch
+pub granted-still : {file : List ℕ} {n k : ℕ} {scratch scratch′ greedys taken : List ℕ} → Granted file n k scratch greedys taken
+    → length scratch′ ≡ length scratch → Granted file n k scratch′ greedys taken
+granted-still g e =
+    record {
+      room = record { accepted = g .room .accepted; count = g .room .count; room = rw e (g .room .room) };
+      budget = g .budget;
+      totalsLong = g .totalsLong;
+      takenLong = g .takenLong;
+    }
+
+pub both-made : {file : List ℕ} {sizes : code.Tree} {scratch totals rows greedys taken mid scratch′ totals′ rows′ greedys′ taken′ : List ℕ}
+    → Lent file sizes scratch totals rows greedys taken → FrontOnly (scratchWords file) scratch mid
+    → totals′ ≡ sets totals 0 (planTotals file) → rows′ ≡ sets rows 0 (planRows file)
+    → Ran file (sizes .nodes) mid greedys taken scratch′ greedys′ taken′
+    → Made file scratch totals rows greedys taken scratch′ totals′ rows′ greedys′ taken′
+both-made {file} {sizes} l f t r ran =
+    let count : sizes .nodes ≡ _ = l .forGreedy .room .count in
+    record {
+      front = front-only-then (scratchWords file) f (front-only-wider (rw count (nodes-fit file)) (ran .front));
+      totalsAfter = totals-after (l .planLong) t;
+      rowsAfter = rows-after (l .planLong) r;
+      greedysAfter = ran .totalsAfter;
+      takenAfter = ran .takenAfter;
+    }
+
+-- ---- each answer
+
+module _ (file scratch totals rows greedys taken : List ℕ) where
+  abbrev long : Bool
+  long = planBuffersLong file totals rows && greedyBuffersLong file greedys taken
+
+  verdict-is : reportVerdict file scratch totals rows greedys taken ≡ (lentVerdict file (length scratch) then askBuffers long)
+  unfolding reportVerdict
+  verdict-is = then-buffers file scratch long
+
+  refused-whole : {q i : ℕ} → broken q i ≡ reportVerdict file scratch totals rows greedys taken
+      → ReportCall file scratch totals rows greedys taken (broken q i) scratch totals rows greedys taken
+  refused-whole e =
+      record {
+        verdict = e;
+        scratchAfter = refl;
+        totalsAfter = refl;
+        rowsAfter = refl;
+        greedysAfter = refl;
+        takenAfter = refl;
+        demandThree = λ e. absurd (broken≢passed e);
+      }
+
+  -- the rules before rule 14 refuse
+  pub report-refused : {q i : ℕ} → refused q i ≡ answer (lentVerdict file (length scratch)) (sizesOf file)
+      → ReportCall file scratch totals rows greedys taken (broken q i) scratch totals rows greedys taken
+  report-refused e = refused-whole (sym (verdict-is ∙ rw (refused-broken (lentVerdict file (length scratch)) (sizesOf file) e)))
+
+  module _ {sizes : code.Tree} (e : answered sizes ≡ answer (lentVerdict file (length scratch)) (sizesOf file)) where
+    told : (lentVerdict file (length scratch) ≡ passed) × (sizes ≡ sizesOf file)
+    told = answered-passed (lentVerdict file (length scratch)) (sizesOf file) e
+
+    -- rule 14, as it is asked with the sizes found
+    abbrev planFits : Bool
+    planFits = leb (suc (sizes .budget)) (length totals) && leb (suc (sizes .budget) * sizes .budget) (length rows)
+
+    abbrev greedyFits : Bool
+    greedyFits = leb (suc (sizes .budget)) (length greedys) && leb (sizes .budget) (length taken)
+
+    fits-is : {b : Bool} → (planFits && greedyFits) ≡ b → long ≡ b
+    fits-is h = rw (told .1) at h
+
+    pub report-short : (planFits && greedyFits) ≡ false
+        → ReportCall file scratch totals rows greedys taken (broken 14 0) scratch totals rows greedys taken
+    report-short h = refused-whole (sym (verdict-is ∙ ap₂ (λ v x. v then askBuffers x) (told .0) (fits-is h)))
+
+    module _ (h : (planFits && greedyFits) ≡ true) where
+      pub report-lent : Lent file sizes scratch totals rows greedys taken
+      report-lent =
+          let fit = both planFits greedyFits h in
+          record {
+            forPlan = plan-room file scratch e;
+            planLong = plan-long file scratch totals rows e (fit .0);
+            forGreedy = call-granted file scratch greedys taken e refl (fit .1);
+          }
+
+      -- all rules hold
+      pub report-made : {scratch′ totals′ rows′ greedys′ taken′ : List ℕ}
+          → Made file scratch totals rows greedys taken scratch′ totals′ rows′ greedys′ taken′
+          → ReportCall file scratch totals rows greedys taken passed scratch′ totals′ rows′ greedys′ taken′
+      report-made m =
+          let accepted = lent-accepted file (length scratch) (told .0) .0 in
+          record {
+            verdict = sym (verdict-is ∙ ap₂ (λ v x. v then askBuffers x) (told .0) (fits-is h));
+            scratchAfter = (m .front .long, m .front .rest);
+            totalsAfter = m .totalsAfter;
+            rowsAfter = m .rowsAfter;
+            greedysAfter = m .greedysAfter;
+            takenAfter = m .takenAfter;
+            demandThree = λ _. rw (m .totalsAfter, m .rowsAfter, m .greedysAfter) (report-meets-demand file accepted totals rows greedys);
+          }
