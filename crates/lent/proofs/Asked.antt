@@ -30,15 +30,20 @@ refused-broken (broken q i) y e = cc
 
 -- ---- rule 13
 
+-- the words grow with the sizes
+pub words-grow : {n h k n′ h′ k′ : ℕ} → n ≤ n′ → h ≤ h′ → k ≤ k′
+    → (n * (h + 1) ≤ n′ * (h′ + 1)) × (n * (h + 1) * (k + 1) ≤ n′ * (h′ + 1) * (k′ + 1))
+words-grow {h = h} {k = k} {h′ = h′} {k′ = k′} few low small =
+    let tall : h + 1 ≤ h′ + 1 = omega arith in
+    let wide : k + 1 ≤ k′ + 1 = omega arith in
+    let lines = mul-le-mul few tall in
+    (lines, mul-le-mul lines wide)
+
 -- the product stays small
 pub words-fit : {sizes : code.Tree} → SizesHold sizes
     → (sizes .nodes * (sizes .height + 1) ≤ mostNodes * (mostDepth + 1))
     × (sizes .nodes * (sizes .height + 1) * (sizes .budget + 1) ≤ mostNodes * (mostDepth + 1) * (mostBudget + 1))
-words-fit {sizes} hold =
-    let tall : sizes .height + 1 ≤ mostDepth + 1 = omega (arith, hold .height) in
-    let wide : sizes .budget + 1 ≤ mostBudget + 1 = omega (arith, hold .budget) in
-    let lines = mul-le-mul (hold .nodes) tall in
-    (lines, mul-le-mul lines wide)
+words-fit hold = words-grow (hold .nodes) (hold .height) (hold .budget)
 
 module _ (file : List ℕ) where
   accepted-sizes : fileVerdict file ≡ passed → SizesHold (sizesOf file)

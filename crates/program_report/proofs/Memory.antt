@@ -1,0 +1,81 @@
+-- Within the limits of rule 15 the program's own memory passes rules 13 and 14.
+use mathlib.Core.Path.{_≡_, ap, _∙_}
+use mathlib.Core.Bool.{true, _&&_}
+use mathlib.Core.List.{List}
+use Prim.Native.Nat.{ℕ, suc, _+_, _*_, _≤_}
+use native.Mathlib.Nat.{mul-le-mul}
+use native.Mathlib.Omega.{arith}
+use lib.Dec.{leb}
+use lib.ListN.{length}
+use borrow.Author.Tests.{leb-true, le-leb}
+use Rattle.laws.proofs.Bools.{both}
+use Rattle.model.specs.File.{treeOf, countOf, budgetOf}
+use Rattle.model.specs.Tree.{height}
+use Rattle.model.specs.Rules.{Verdict, passed, isPassed, fileVerdict, accepted, scratchWords}
+use Rattle.model.specs.Calls.{after, planTotals, planRows, planBuffersLong, greedyTotals, greedyBuffersLong}
+use Rattle.model.specs.Report.{programNodes, programHeight, programBudget, isSmall, reportVerdict, ReportCall}
+use Rattle.model.proofs.Reported.{report-passes}
+use Rattle.lent.proofs.Asked.{words-grow}
+use Rattle.program_report.specs.declared.Report.{Report}
+
+-- n × (h + 1) × (k + 1) + 4 × n at the limits
+abbrev pub programScratch : ℕ
+programScratch = programNodes * (programHeight + 1) * (programBudget + 1) + 4 * programNodes
+
+module _ (file : List ℕ) (small : isSmall file ≡ true) where
+  limits : (countOf file ≤ programNodes) × (height (treeOf file) ≤ programHeight) × (budgetOf file ≤ programBudget)
+  limits =
+      let few = leb (countOf file) programNodes in
+      let low = leb (height (treeOf file)) programHeight in
+      let parts = both (few && low) (leb (budgetOf file) programBudget) small in
+      let shape = both few low (parts .0) in
+      (leb-true _ _ (shape .0), leb-true _ _ (shape .1), leb-true _ _ (parts .1))
+
+  words-within : scratchWords file ≤ programScratch
+  unfolding scratchWords
+  words-within =
+      let w = words-grow (limits .0) (limits .1) (limits .2) .1 in
+      let n = limits .0 in
+      omega arith
+
+  rows-within : suc (budgetOf file) * budgetOf file ≤ suc programBudget * programBudget
+  rows-within =
+      let k = limits .2 in
+      let s : suc (budgetOf file) ≤ suc programBudget = omega arith in
+      mul-le-mul s k
+
+  pub memory-enough : (scratch totals rows greedys taken : List ℕ) → fileVerdict file ≡ passed
+      → length scratch ≡ programScratch → length totals ≡ suc programBudget → length rows ≡ suc programBudget * programBudget
+      → length greedys ≡ suc programBudget → length taken ≡ programBudget
+      → reportVerdict file scratch totals rows greedys taken ≡ passed
+  unfolding accepted
+  memory-enough scratch totals rows greedys taken ok s t r g n =
+      let k = limits .2 in
+      report-passes file scratch totals rows greedys taken .1 (
+        ap isPassed ok,
+        rw s (le-leb _ _ words-within),
+        rw (t, r, g, n, le-leb (suc (budgetOf file)) (suc programBudget) (omega arith), le-leb _ _ rows-within, le-leb (budgetOf file) programBudget k),
+      )
+
+-- ---- the report that it holds
+
+module _ (file : List ℕ) {scratch totals rows greedys taken scratch′ totals′ rows′ greedys′ taken′ : List ℕ} {v : Verdict}
+    (call : ReportCall file scratch totals rows greedys taken v scratch′ totals′ rows′ greedys′ taken′)
+    (passes : reportVerdict file scratch totals rows greedys taken ≡ passed) where
+  pub written : {k : ℕ} → k ≡ budgetOf file
+      → _≡_ {A = Report} (record { budget = k; totals = totals′; rows = rows′; greedys = greedys′ })
+      (record {
+        budget = budgetOf file;
+        totals = after passed (planTotals file) totals;
+        rows = after passed (planRows file) rows;
+        greedys = after passed (greedyTotals file) greedys;
+      })
+  written k =
+      let e = call .verdict ∙ passes in
+      λ i.
+      record {
+        budget = k i;
+        totals = (call .totalsAfter ∙ ap (λ u. after u (planTotals file) totals) e) i;
+        rows = (call .rowsAfter ∙ ap (λ u. after u (planRows file) rows) e) i;
+        greedys = (call .greedysAfter ∙ ap (λ u. after u (greedyTotals file) greedys) e) i;
+      }

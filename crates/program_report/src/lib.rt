@@ -1,0 +1,94 @@
+// The report in the program's own memory: rule 15, and the memory that is enough within its limits.
+ghost use mathlib.Core.Path.{_≡_};
+ghost use mathlib.Core.Bool.{_&&_};
+ghost use lib.Dec.{leb};
+ghost use lib.ListN.{take};
+ghost use Rattle.model.specs.File.{budgetOf};
+ghost use Rattle.model.specs.Rules.{passed};
+ghost use Rattle.model.specs.Calls.{answer};
+ghost use Rattle.model.specs.Report.{firstLook, programNodes, programHeight, programBudget, programVerdict};
+ghost use Rattle.tree_file.specs.Checks.{answerOf, sizesOf};
+ghost use Rattle.program_report.specs.Memory.{reportOf};
+use tree_file::Checked;
+
+// The program looks at so many bytes of its input.
+pub const FIRST_LOOK: usize = 650;
+
+// The limits of rule 15.
+const NODES: usize = 64;
+
+const HEIGHT: usize = 8;
+
+const BUDGET: usize = 8;
+
+const TOTALS: usize = BUDGET + 1;
+
+const ROWS: usize = TOTALS * BUDGET;
+
+const SCRATCH: usize = NODES * (HEIGHT + 1) * (BUDGET + 1) + 4 * NODES;
+
+// What the program prints of a report, in front of zeros: k, the plan's totals and rows, the greedy rule's totals.
+pub struct Report {
+    pub budget: usize,
+    pub totals: [u64; TOTALS],
+    pub rows: [u16; ROWS],
+    pub greedys: [u64; TOTALS],
+}
+
+// The rest of rule 15.
+fn is_small(tree: fields::Tree) -> bool
+    ensures { λ r. ⌜ r ≡ (leb (tree .nodes) programNodes && leb (tree .height) programHeight && leb (tree .budget) programBudget) ⌝ }
+{
+    if NODES < tree.nodes {
+        return false;
+    }
+    if HEIGHT < tree.height {
+        return false;
+    }
+    tree.budget <= BUDGET
+}
+
+// Rules 1 to 11 and 15 of the program's input; n, k and h where they hold.
+pub fn check(input: &[u8]) -> Checked
+    ensures { λ r. ⌜ answerOf r ≡ answer (programVerdict (take firstLook (now (input .entry)))) (sizesOf (now (input .entry))) ⌝ }
+{
+    if FIRST_LOOK <= input.len() {
+        return Checked::Refused(15, 0);
+    }
+    let checked = tree_file::check(input);
+    match checked {
+        Checked::Accepted(tree) => {
+            if !is_small(tree) {
+                return Checked::Refused(15, 0);
+            }
+            Checked::Accepted(tree)
+        }
+        Checked::Refused(q, record) => Checked::Refused(q, record),
+    }
+}
+
+// The report of a file that the program accepts. Its memory passes rules 13 and 14.
+pub fn report_of(file: &[u8], budget: usize) -> Report
+    requires { ⌜ (programVerdict (now file) ≡ passed) × (budget ≡ budgetOf (now file)) ⌝ }
+    ensures { λ r. ⌜ r ≡ reportOf (now (file .entry)) ⌝ }
+{
+    let mut scratch = [0u64; SCRATCH];
+    let mut totals = [0u64; TOTALS];
+    let mut rows = [0u16; ROWS];
+    let mut greedys = [0u64; TOTALS];
+    let mut taken = [0u16; BUDGET];
+    report::report(
+        file,
+        &mut scratch,
+        &mut totals,
+        &mut rows,
+        &mut greedys,
+        &mut taken,
+    );
+    Report {
+        budget,
+        totals,
+        rows,
+        greedys,
+    }
+}
