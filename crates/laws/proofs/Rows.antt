@@ -1,7 +1,7 @@
 -- Loops that write rows of equally many entries one after the other, and zeros.
 use mathlib.Core.Path.{_≡_, refl, sym, ap, _∙_}
 use mathlib.Core.List.{List, [], _∷_, _++_, append-nil, append-assoc, flatMap}
-use Prim.Native.Nat.{ℕ, suc, _+_, _-_, _*_, _<_, _≤_}
+use Prim.Native.Nat.{ℕ, zero, suc, _+_, _-_, _*_, _<_, _≤_}
 use native.Mathlib.Nat.{zero-add}
 use native.Mathlib.Numerals.{add-one}
 use native.Mathlib.Omega.{arith}
@@ -11,15 +11,22 @@ use Rattle.laws.specs.Lists.{range}
 use Rattle.laws.proofs.Lists.{range-snoc}
 use Rattle.laws.proofs.Stores.{sets-append, length-of-rows}
 
-flat-append : (f : ℕ → List ℕ) (xs ys : List ℕ) → flatMap f (xs ++ ys) ≡ flatMap f xs ++ flatMap f ys
+pub flat-append : (f : ℕ → List ℕ) (xs ys : List ℕ) → flatMap f (xs ++ ys) ≡ flatMap f xs ++ flatMap f ys
 unfolding flatMap
 flat-append f [] ys = refl
 flat-append f (x ∷ xs) ys = ap (λ l. f x ++ l) (flat-append f xs ys) ∙ sym (append-assoc (f x) (flatMap f xs) (flatMap f ys))
 
-flat-snoc : (f : ℕ → List ℕ) (n : ℕ) → flatMap f (range 0 (suc n)) ≡ flatMap f (range 0 n) ++ f n
+pub flat-snoc : (f : ℕ → List ℕ) (n : ℕ) → flatMap f (range 0 (suc n)) ≡ flatMap f (range 0 n) ++ f n
 unfolding flatMap
 flat-snoc f n =
     ap (flatMap f) (range-snoc 0 n) ∙ flat-append f (range 0 n) _ ∙ rw (append-nil (f (0 + n)), zero-add n)
+
+-- rows that are the same one by one
+pub flat-same : (f g : ℕ → List ℕ) (i n : ℕ) → ((j : ℕ) → i ≤ j → j < i + n → f j ≡ g j) → flatMap f (range i n) ≡ flatMap g (range i n)
+unfolding flatMap range
+flat-same f g i zero h = refl
+flat-same f g i (suc n) h =
+    rw (h i (omega arith) (omega arith), flat-same f g (suc i) n (λ j p q. h j (omega arith) (omega arith)))
 
 -- a loop that writes row after row from index 0 on: where it begins, and a turn
 pub rows-begin : (f : ℕ → List ℕ) (l : List ℕ) → l ≡ sets l 0 (flatMap f (range 0 0))

@@ -5,8 +5,8 @@ use Prim.Native.Nat.{ℕ, zero, suc, _+_, _*_, _≤_, _<_}
 use native.Mathlib.Nat.{add-suc, suc-add, zero-add, add-zero, suc-mul, zero-mul}
 use native.Mathlib.Numerals.{add-one}
 use native.Mathlib.Omega.{arith}
-use lib.ListN.{length, length-append, take, drop, set, length-take, length-drop}
-use lib.Seq.{drop-append-add, sets, sets-eq, drop-set-lt, take-set-le, take-at, drop-at, length-take-le}
+use lib.ListN.{length, length-append, take, drop, set, getD, length-take, length-drop}
+use lib.Seq.{take-suc, getD-drop, drop-append-add, sets, sets-eq, drop-set-lt, take-set-le, take-at, drop-at, length-take-le}
 use Rattle.laws.specs.Lists.{range, part}
 use Rattle.laws.proofs.Lists.{length-of-range, range-snoc, map-append}
 
@@ -14,6 +14,10 @@ use Rattle.laws.proofs.Lists.{length-of-range, range-snoc, map-append}
 
 pub length-part : (l : List ℕ) (p w : ℕ) → p + w ≤ length l → length (part l p w) ≡ w
 length-part l p w h = simp (length-take, length-drop) (omega arith)
+
+-- a part that is one entry longer
+pub part-snoc : (l : List ℕ) (p w : ℕ) → p + w < length l → part l p (suc w) ≡ part l p w ++ (getD l (p + w) 0 ∷ [])
+part-snoc l p w h = rw (take-suc (drop p l) w 0 (simp length-drop (omega arith)), getD-drop p l w 0)
 
 -- a part is the end of a front of the list
 part-of-front : (w p : ℕ) (l : List ℕ) → take w (drop p l) ≡ drop p (take (p + w) l)

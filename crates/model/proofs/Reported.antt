@@ -1,5 +1,5 @@
 -- The report call passes just where demand 3 asks it to, and a report with the plan's and the greedy rule's answers meets it.
-use mathlib.Core.Path.{_≡_, refl, sym, ap}
+use mathlib.Core.Path.{_≡_, refl, sym, ap, _∙_}
 use mathlib.Core.Bool.{true, not, _&&_}
 use mathlib.Core.Logic.{_↔_}
 use mathlib.Core.List.{List, [], _∷_, _++_}
@@ -7,7 +7,7 @@ use Prim.Native.Nat.{ℕ, suc, _-_, _≤_}
 use native.Mathlib.Nat.{zero-add}
 use native.Mathlib.Omega.{arith}
 use lib.Dec.{eqb}
-use lib.ListN.{length, replicate}
+use lib.ListN.{length, replicate, getD}
 use borrow.Author.Tests.{ne-eqb}
 use Rattle.laws.specs.Lists.{those}
 use Rattle.laws.proofs.Lists.{entry-of-range, none-of-these}
@@ -58,7 +58,8 @@ module _ (file : List ℕ) where
   abbrev d : Demand
   d = demandOf file
 
-  row-holds-plan : (rest : List ℕ) (b : ℕ) → b ≤ budgetOf file → setOfRow (budgetOf file) (planRows file ++ rest) b ≡ plan t d b
+  -- what a report holds at budget b, whatever stands beyond it
+  pub row-holds-plan : (rest : List ℕ) (b : ℕ) → b ≤ budgetOf file → setOfRow (budgetOf file) (planRows file ++ rest) b ≡ plan t d b
   unfolding setOfRow planRows
   row-holds-plan rest b h =
       let k = budgetOf file in
@@ -69,14 +70,19 @@ module _ (file : List ℕ) where
       )
       (those-of-row 0 (t .count) (k - length (plan t d b)) (plan t d b) (plan-ranks-first t d b .isASet))
 
+  pub holds-plan-total : (rest : List ℕ) (b : ℕ) → b ≤ budgetOf file → getD (planTotals file ++ rest) b 0 ≡ planTotal t d b
+  unfolding planTotals
+  holds-plan-total rest b h = entry-of-range (planTotal t d) 0 (suc (budgetOf file)) b rest (omega arith) ∙ ap (planTotal t d) (zero-add b)
+
+  pub holds-greedy-total : (rest : List ℕ) (b : ℕ) → b ≤ budgetOf file → getD (greedyTotals file ++ rest) b 0 ≡ greedyTotal t d b
+  unfolding greedyTotals
+  holds-greedy-total rest b h = entry-of-range (greedyTotal t d) 0 (suc (budgetOf file)) b rest (omega arith) ∙ ap (greedyTotal t d) (zero-add b)
+
   -- whatever the buffers held
   pub report-meets-demand : fileVerdict file ≡ passed → (totals rows greedys : List ℕ)
       → DemandThree file (after passed (planTotals file) totals) (after passed (planRows file) rows) (after passed (greedyTotals file) greedys)
-  unfolding planTotals greedyTotals
   report-meets-demand e totals rows greedys b h =
-      let k = budgetOf file in
-      rw (row-holds-plan _ b h, entry-of-range (planTotal t d) 0 (suc k) b _ (omega arith), entry-of-range (greedyTotal t d) 0 (suc k) b _ (omega arith), zero-add b)
-      (plan-holds-optimum t d (accepted-sound file e) b)
+      rw (row-holds-plan _ b h, holds-plan-total _ b h, holds-greedy-total _ b h) (plan-holds-optimum t d (accepted-sound file e) b)
 
 -- ---- "any accepted file with enough scratch and buffers"
 

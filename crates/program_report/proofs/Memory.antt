@@ -23,7 +23,7 @@ abbrev pub programScratch : ℕ
 programScratch = programNodes * (programHeight + 1) * (programBudget + 1) + 4 * programNodes
 
 module _ (file : List ℕ) (small : isSmall file ≡ true) where
-  limits : (countOf file ≤ programNodes) × (height (treeOf file) ≤ programHeight) × (budgetOf file ≤ programBudget)
+  pub limits : (countOf file ≤ programNodes) × (height (treeOf file) ≤ programHeight) × (budgetOf file ≤ programBudget)
   limits =
       let few = leb (countOf file) programNodes in
       let low = leb (height (treeOf file)) programHeight in
@@ -38,7 +38,7 @@ module _ (file : List ℕ) (small : isSmall file ≡ true) where
       let n = limits .0 in
       omega arith
 
-  rows-within : suc (budgetOf file) * budgetOf file ≤ suc programBudget * programBudget
+  pub rows-within : suc (budgetOf file) * budgetOf file ≤ suc programBudget * programBudget
   rows-within =
       let k = limits .2 in
       let s : suc (budgetOf file) ≤ suc programBudget = omega arith in

@@ -5,9 +5,9 @@ use mathlib.Core.List.{List}
 use Prim.Native.Nat.{ℕ, _≤_, _<_}
 use native.Mathlib.Omega.{arith}
 use lib.Dec.{leb, ltb}
-use lib.ListN.{length, take}
+use lib.ListN.{length, length-take, take}
 use lib.Seq.{length-take-le, take-all}
-use borrow.Author.Tests.{lt-ltb}
+use borrow.Author.Tests.{lt-ltb, ltb-true}
 use Rattle.model.specs.Rules.{passed, broken, _then_, fileVerdict, askProgram}
 use Rattle.model.specs.Calls.{answered, refused, answer}
 use Rattle.model.specs.Report.{firstLook, programNodes, programHeight, programBudget, isSmall, programVerdict}
@@ -30,8 +30,16 @@ module _ (input : List ℕ) where
   unfolding programVerdict
   look-full h = rw (length-take-le firstLook input h)
 
+  -- an accepted input was looked at whole
+  pub accepted-whole : programVerdict (take firstLook input) ≡ passed → take firstLook input ≡ input
+  unfolding programVerdict
+  accepted-whole e =
+      let looked = take firstLook input in
+      let less = ltb-true (length looked) firstLook (ask-passed 15 0 (ltb (length looked) firstLook) (then-passed _ _ e .0)) in
+      take-all firstLook input (omega (arith, less, length-take firstLook input))
+
   module _ (short : length input < firstLook) where
-    pub looked-whole : take firstLook input ≡ input
+    looked-whole : take firstLook input ≡ input
     looked-whole = take-all firstLook input (omega arith)
 
     verdict-is : programVerdict (take firstLook input) ≡ (fileVerdict input then askProgram (isSmall input))
