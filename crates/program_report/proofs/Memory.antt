@@ -62,19 +62,16 @@ module _ (file : List ℕ) (small : isSmall file ≡ true) where
 module _ (file : List ℕ) {scratch totals rows greedys taken scratch′ totals′ rows′ greedys′ taken′ : List ℕ} {v : Verdict}
     (call : ReportCall file scratch totals rows greedys taken v scratch′ totals′ rows′ greedys′ taken′)
     (passes : reportVerdict file scratch totals rows greedys taken ≡ passed) where
-  pub written : {k : ℕ} → k ≡ budgetOf file
-      → _≡_ {A = Report} (record { budget = k; totals = totals′; rows = rows′; greedys = greedys′ })
+  pub written : _≡_ {A = Report} (record { totals = totals′; rows = rows′; greedys = greedys′ })
       (record {
-        budget = budgetOf file;
         totals = after passed (planTotals file) totals;
         rows = after passed (planRows file) rows;
         greedys = after passed (greedyTotals file) greedys;
       })
-  written k =
+  written =
       let e = call .verdict ∙ passes in
       λ i.
       record {
-        budget = k i;
         totals = (call .totalsAfter ∙ ap (λ u. after u (planTotals file) totals) e) i;
         rows = (call .rowsAfter ∙ ap (λ u. after u (planRows file) rows) e) i;
         greedys = (call .greedysAfter ∙ ap (λ u. after u (greedyTotals file) greedys) e) i;

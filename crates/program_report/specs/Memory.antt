@@ -2,7 +2,6 @@
 use mathlib.Core.List.{List}
 use Prim.Native.Nat.{ℕ, suc, _*_}
 use lib.ListN.{replicate}
-use Rattle.model.specs.File.{budgetOf}
 use Rattle.model.specs.Rules.{passed}
 use Rattle.model.specs.Calls.{after, planTotals, planRows, greedyTotals}
 use Rattle.model.specs.Report.{programBudget}
@@ -12,7 +11,6 @@ use Rattle.program_report.specs.declared.Report.{Report}
 abbrev pub reportOf : List ℕ → Report
 reportOf file =
     record {
-      budget = budgetOf file;
       totals = after passed (planTotals file) (replicate (suc programBudget) 0);
       rows = after passed (planRows file) (replicate (suc programBudget * programBudget) 0);
       greedys = after passed (greedyTotals file) (replicate (suc programBudget) 0);

@@ -3,7 +3,6 @@ ghost use mathlib.Core.Path.{_≡_};
 ghost use mathlib.Core.Bool.{_&&_};
 ghost use lib.Dec.{leb};
 ghost use lib.ListN.{take};
-ghost use Rattle.model.specs.File.{budgetOf};
 ghost use Rattle.model.specs.Rules.{passed};
 ghost use Rattle.model.specs.Calls.{answer};
 ghost use Rattle.model.specs.Report.{firstLook, programNodes, programHeight, programBudget, programVerdict};
@@ -19,7 +18,7 @@ const NODES: usize = 64;
 
 const HEIGHT: usize = 8;
 
-const BUDGET: usize = 8;
+pub const BUDGET: usize = 8;
 
 const TOTALS: usize = BUDGET + 1;
 
@@ -27,9 +26,8 @@ const ROWS: usize = TOTALS * BUDGET;
 
 const SCRATCH: usize = NODES * (HEIGHT + 1) * (BUDGET + 1) + 4 * NODES;
 
-// What the program prints of a report, in front of zeros: k, the plan's totals and rows, the greedy rule's totals.
+// What the program prints of a report: the plan's totals and rows, and the greedy rule's totals, in front of zeros.
 pub struct Report {
-    pub budget: usize,
     pub totals: [u64; TOTALS],
     pub rows: [u16; ROWS],
     pub greedys: [u64; TOTALS],
@@ -68,8 +66,8 @@ pub fn check(input: &[u8]) -> Checked
 }
 
 // The report of a file that the program accepts. Its memory passes rules 13 and 14.
-pub fn report_of(file: &[u8], budget: usize) -> Report
-    requires { ⌜ (programVerdict (now file) ≡ passed) × (budget ≡ budgetOf (now file)) ⌝ }
+pub fn report_of(file: &[u8]) -> Report
+    requires { ⌜ programVerdict (now file) ≡ passed ⌝ }
     ensures { λ r. ⌜ r ≡ reportOf (now (file .entry)) ⌝ }
 {
     let mut scratch = [0u64; SCRATCH];
@@ -86,7 +84,6 @@ pub fn report_of(file: &[u8], budget: usize) -> Report
         &mut taken,
     );
     Report {
-        budget,
         totals,
         rows,
         greedys,

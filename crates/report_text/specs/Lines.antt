@@ -4,7 +4,7 @@ use mathlib.Core.List.{List, _∷_, map, flatMap}
 use Prim.Native.Nat.{ℕ, _+_, _*_, _≤_}
 use lib.Dec.{eqb}
 use lib.ListN.{length, getD}
-use Rattle.model.specs.Report.{space, decimal, line, setOfRow, programBudget}
+use Rattle.model.specs.Report.{space, decimal, line, setOfRow, refusedWord, programBudget}
 use Rattle.text_bytes.specs.Appended.{Appended}
 
 -- ---- the bytes
@@ -32,19 +32,19 @@ numberRoom = 20
 
 -- a space and a number
 abbrev pub wordRoom : ℕ
-wordRoom = 21
+wordRoom = numberRoom + 1
 
--- a budget, two totals and at most 8 nodes; the newline stands in for the space that the budget lacks
+-- a budget, two totals and the nodes; the newline stands in for the space that the budget lacks
 abbrev pub lineRoom : ℕ
-lineRoom = 231
+lineRoom = (programBudget + 3) * wordRoom
 
--- the lines of budgets 0 to 8
+-- the lines of all budgets
 abbrev pub linesRoom : ℕ
-linesRoom = 2079
+linesRoom = (programBudget + 1) * lineRoom
 
 -- the word `refused`, the number, the record and the newline
 abbrev pub refusalRoom : ℕ
-refusalRoom = 50
+refusalRoom = length refusedWord + 2 * wordRoom + 1
 
 -- bytes were appended to a text that ended at `at`, in the room given
 pub record AppendedWithin (room at : ℕ) (bytes old new : List ℕ) (end : ℕ) : Type 0 where

@@ -11,8 +11,11 @@ ghost use Rattle.model.specs.Report.{decimal, reportText, refusalText, programV
 ghost use Rattle.report_text.specs.Lines.{word, words, isNode, budgetLine, numberRoom, wordRoom, lineRoom, linesRoom, refusalRoom, AppendedWithin, Reported};
 ghost use Rattle.report_text.specs.Texts.{Prints};
 
-// The bytes of all lines at the program's limits: 9 budgets, 11 numbers each, 20 digits and a space or a newline.
-const ROOM: usize = 9 * 11 * 21;
+// The bytes of a line at the program's limit: a budget, two totals and the nodes, 20 digits each and a space or the newline.
+const LINE: usize = (program_report::BUDGET + 3) * 21;
+
+// The bytes of all lines.
+const ROOM: usize = (program_report::BUDGET + 1) * LINE;
 
 const SPACE: u8 = b' ';
 
@@ -124,7 +127,7 @@ fn report_lines(file: &[u8], budget: usize) -> Text
     requires { ⌜ (programVerdict (now file) ≡ passed) × (budget ≡ budgetOf (now file)) ⌝ }
     ensures { λ r. ⌜ Prints r (reportText (now (file .entry))) ⌝ }
 {
-    let report = program_report::report_of(file, budget);
+    let report = program_report::report_of(file);
     let totals = report.totals;
     let rows = report.rows;
     let greedys = report.greedys;

@@ -25,7 +25,7 @@ report-requires : tie.Need-report-requires
 report-requires c κs = search needs
 
 returns : tie.Need-returns
-returns c = let pre = c .before .before .before .before .before .before .before .before .before .before .before .before .pre in let ok = program-accepted _ (pre .0) in written _ (c .before .before .before .before .before .report .ensures) (memory-enough _ (ok .1) _ _ _ _ _ (ok .0) refl refl refl refl refl) (pre .1)
+returns c = let ok = program-accepted _ (c .before .before .before .before .before .before .before .before .before .before .before .before .pre) in written _ (c .before .before .before .before .before .report .ensures) (memory-enough _ (ok .1) _ _ _ _ _ (ok .0) refl refl refl refl refl)
 
 pub report-of-spec : {M : Type 1} → statement M
 report-of-spec =
