@@ -5,21 +5,9 @@
 // are as they were.
 use libc::STDIN_FILENO;
 use libc::STDOUT_FILENO;
-use tree_file::Ruling;
-
-fn print_ruling(ruling: Ruling) {
-    match ruling {
-        Ruling::Passed => {
-            io::write_all(STDOUT_FILENO, b" accepted");
-        }
-        Ruling::Broken(rule, record) => {
-            trial_text::print_refused(rule, record);
-        }
-    }
-}
 
 fn answer(file: &[u8], beyond: usize, scratch: &mut [u64], totals: &mut [u64], taken: &mut [u16]) {
-    print_ruling(greedy::greedy(file, scratch, totals, taken));
+    trial_text::print_ruling(greedy::greedy(file, scratch, totals, taken));
     io::write_all(STDOUT_FILENO, b" totals");
     trial_text::print_totals(totals);
     io::write_all(STDOUT_FILENO, b" taken");

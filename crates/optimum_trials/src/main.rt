@@ -1,6 +1,6 @@
 // Sets the planner against full enumeration: on thousands of trees of at most six nodes, with ties of every kind, it compares
-// each budget's plan, the bill of the plan's set, the greedy rule's totals and nodes, and the ranking of the two sets, with a
-// reference that shares no code with the planner.
+// what the report holds at each budget, the bills of two sets and their ranking with a reference that shares no code with the
+// planner, and the report's buffers with those of the plan call and of the greedy call.
 //
 // It writes a line for each difference, and last how many trees it went through.
 ghost use Prim.Native.Nat.{_≤_, _<_};
@@ -50,22 +50,33 @@ fn wide(node: u16) -> usize {
     node as usize
 }
 
-// ---- the plan
+// ---- the report at each budget
 
+// Where row b of rows of k entries starts.
 fn row_at(b: usize, k: usize) -> usize
-    requires { ⌜ (b ≤ 6) × (k ≤ 6) ⌝ }
-    ensures { λ r. ⌜ r ≤ 36 ⌝ }
+    requires { ⌜ (b ≤ 7) × (k ≤ 6) ⌝ }
+    ensures { λ r. ⌜ r ≤ 42 ⌝ }
 {
     b * k
 }
 
-// Does the row of k entries from `at` on hold the set's nodes in order, then zeros?
-fn holds_row(rows: &[u16], at: usize, k: usize, set: u8) -> bool
-    requires { ⌜ (at ≤ 36) × (k ≤ 6) ⌝ }
+// Row b of rows of k entries, empty if it is not there.
+fn row_of(rows: &[u16], b: usize, k: usize) -> &[u16]
+    requires { ⌜ (b ≤ 6) × (k ≤ 6) ⌝ }
 {
+    let start = row_at(b, k);
+    let end = start + k;
+    if rows.len() < end {
+        return &rows[0..0];
+    }
+    &rows[start..end]
+}
+
+// Does a row of k entries hold the set's nodes in order, then zeros?
+fn holds_set(row: &[u16], k: usize, set: u8) -> bool {
     let mut j = 0;
     while j < k {
-        if node_at(rows, at + j) != small_trees::member(set, j) {
+        if node_at(row, j) != small_trees::member(set, j) {
             return false;
         }
         j += 1;
@@ -73,36 +84,25 @@ fn holds_row(rows: &[u16], at: usize, k: usize, set: u8) -> bool
     true
 }
 
+// The plan's set and total at b, and the loads times lengths of the set that the row holds.
 fn check_plan(i: u64, tree: SmallTree, b: usize, k: usize, totals: &[u64], rows: &[u16])
     requires { ⌜ (b ≤ 6) × (k ≤ 6) ⌝ }
 {
     let set = small_plans::plan(tree, b);
-    if total_at(totals, b) != small_plans::total(tree, set) {
+    let row = row_of(rows, b, k);
+    let total = total_at(totals, b);
+    if total != small_plans::total(tree, set) {
         differs(i, b, b" plan's total");
     }
-    if !holds_row(rows, row_at(b, k), k, set) {
+    if !holds_set(row, k, set) {
         differs(i, b, b" plan's set");
     }
-}
-
-fn check_plans(i: u64, tree: SmallTree, k: usize, file: &[u8])
-    requires { ⌜ k ≤ 6 ⌝ }
-{
-    let mut scratch = [7u64; 300];
-    let mut totals = [7u64; 7];
-    let mut rows = [7u16; 42];
-    if !is_accepted(optimum::plan(file, &mut scratch, &mut totals, &mut rows)) {
-        differs(i, 0, b" plan's ruling");
-    }
-    let mut b = 0;
-    while b <= k {
-        check_plan(i, tree, b, k, &totals, &rows);
-        b += 1;
+    if total != small_plans::loads_by_lengths(tree, small_trees::set_of(row)) {
+        differs(i, b, b" loads by lengths of the row");
     }
 }
 
-// ---- the greedy rule
-
+// The greedy rule's total at b, and the node that it takes there.
 fn check_step(i: u64, tree: SmallTree, b: usize, k: usize, totals: &[u64], taken: &[u16]) {
     let set = small_plans::greedy(tree, b);
     if total_at(totals, b) != small_plans::total(tree, set) {
@@ -115,20 +115,137 @@ fn check_step(i: u64, tree: SmallTree, b: usize, k: usize, totals: &[u64], taken
     }
 }
 
-fn check_greedy(i: u64, tree: SmallTree, k: usize, file: &[u8])
+// What the report holds at each budget from 0 to k.
+fn check_budgets(
+    i: u64,
+    tree: SmallTree,
+    k: usize,
+    totals: &[u64],
+    rows: &[u16],
+    greedys: &[u64],
+    taken: &[u16],
+)
+    requires { ⌜ k ≤ 6 ⌝ }
+{
+    let mut b = 0;
+    while b <= k {
+        check_plan(i, tree, b, k, totals, rows);
+        check_step(i, tree, b, k, greedys, taken);
+        b += 1;
+    }
+}
+
+// ---- the report's buffers beyond the entries written, and beside those of the plan and of the greedy rule
+
+// Are all entries from `at` on 7, as they were?
+fn kept_from(nodes: &[u16], at: usize) -> bool {
+    let mut i = at;
+    while i < nodes.len() {
+        if nodes[i] != 7 {
+            return false;
+        }
+        i += 1;
+    }
+    true
+}
+
+// The entries that the report does not write.
+fn check_beyond(i: u64, k: usize, totals: &[u64], rows: &[u16], greedys: &[u64], taken: &[u16])
+    requires { ⌜ k ≤ 6 ⌝ }
+{
+    if !trial_text::all_from(totals, k + 1, 7) {
+        differs(i, k, b" total beyond");
+    }
+    if !kept_from(rows, row_at(k + 1, k)) {
+        differs(i, k, b" row beyond");
+    }
+    if !trial_text::all_from(greedys, k + 1, 7) {
+        differs(i, k, b" greedy total beyond");
+    }
+    if !kept_from(taken, k) {
+        differs(i, k, b" greedy node beyond");
+    }
+}
+
+// Are two buffers of totals the same, entry by entry?
+fn same_totals(a: &[u64], b: &[u64]) -> bool {
+    let mut i = 0;
+    while i < a.len() {
+        if a[i] != total_at(b, i) {
+            return false;
+        }
+        i += 1;
+    }
+    a.len() == b.len()
+}
+
+// The same for nodes.
+fn same_nodes(a: &[u16], b: &[u16]) -> bool {
+    let mut i = 0;
+    while i < a.len() {
+        if wide(a[i]) != node_at(b, i) {
+            return false;
+        }
+        i += 1;
+    }
+    a.len() == b.len()
+}
+
+// Does the plan call leave the same in its buffers as the report?
+fn check_plan_call(i: u64, file: &[u8], totals: &[u64], rows: &[u16]) {
+    let mut scratch = [7u64; 300];
+    let mut others = [7u64; 8];
+    let mut other_rows = [7u16; 43];
+    if !is_accepted(optimum::plan(file, &mut scratch, &mut others, &mut other_rows)) {
+        differs(i, 0, b" plan's ruling");
+    }
+    if !same_totals(&others, totals) {
+        differs(i, 0, b" plan call's total");
+    }
+    if !same_nodes(&other_rows, rows) {
+        differs(i, 0, b" plan call's row");
+    }
+}
+
+// Does the greedy call leave the same in its buffers as the report?
+fn check_greedy_call(i: u64, file: &[u8], greedys: &[u64], taken: &[u16]) {
+    let mut scratch = [7u64; 300];
+    let mut others = [7u64; 8];
+    let mut other_nodes = [7u16; 7];
+    if !is_accepted(greedy::greedy(file, &mut scratch, &mut others, &mut other_nodes)) {
+        differs(i, 0, b" greedy ruling");
+    }
+    if !same_totals(&others, greedys) {
+        differs(i, 0, b" greedy call's total");
+    }
+    if !same_nodes(&other_nodes, taken) {
+        differs(i, 0, b" greedy call's node");
+    }
+}
+
+// Lends at least one entry more than is written of each, all of them 7: no total, and no node.
+fn check_report(i: u64, tree: SmallTree, k: usize, file: &[u8])
     requires { ⌜ k ≤ 6 ⌝ }
 {
     let mut scratch = [7u64; 300];
-    let mut totals = [7u64; 7];
-    let mut taken = [7u16; 6];
-    if !is_accepted(greedy::greedy(file, &mut scratch, &mut totals, &mut taken)) {
-        differs(i, 0, b" greedy ruling");
+    let mut totals = [7u64; 8];
+    let mut rows = [7u16; 43];
+    let mut greedys = [7u64; 8];
+    let mut taken = [7u16; 7];
+    if !is_accepted(report::report(
+        file,
+        &mut scratch,
+        &mut totals,
+        &mut rows,
+        &mut greedys,
+        &mut taken,
+    )) {
+        differs(i, 0, b" report's ruling");
     }
-    let mut b = 0;
-    while b <= k {
-        check_step(i, tree, b, k, &totals, &taken);
-        b += 1;
-    }
+    check_budgets(i, tree, k, &totals, &rows, &greedys, &taken);
+    check_beyond(i, k, &totals, &rows, &greedys, &taken);
+    check_plan_call(i, file, &totals, &rows);
+    check_greedy_call(i, file, &greedys, &taken);
 }
 
 // ---- the bill of a set, and the ranking of two
@@ -203,8 +320,7 @@ fn check_tree(i: u64) {
     let mut space = [0u8; 69];
     let n = small_trees::write_file(tree, &mut space);
     let file = &space[0..n];
-    check_plans(i, tree, k, file);
-    check_greedy(i, tree, k, file);
+    check_report(i, tree, k, file);
     let plan = small_plans::plan(tree, k);
     let taken = small_plans::greedy(tree, k);
     check_bill(i, tree, plan, file);

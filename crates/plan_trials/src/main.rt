@@ -5,21 +5,9 @@
 // Before the call each word of the scratch is 5432123, each total 987654321 and each entry of the rows 4321.
 use libc::STDIN_FILENO;
 use libc::STDOUT_FILENO;
-use tree_file::Ruling;
-
-fn print_ruling(ruling: Ruling) {
-    match ruling {
-        Ruling::Passed => {
-            io::write_all(STDOUT_FILENO, b" accepted");
-        }
-        Ruling::Broken(rule, record) => {
-            trial_text::print_refused(rule, record);
-        }
-    }
-}
 
 fn answer(file: &[u8], beyond: usize, scratch: &mut [u64], totals: &mut [u64], rows: &mut [u16]) {
-    print_ruling(optimum::plan(file, scratch, totals, rows));
+    trial_text::print_ruling(optimum::plan(file, scratch, totals, rows));
     io::write_all(STDOUT_FILENO, b" totals");
     trial_text::print_totals(totals);
     io::write_all(STDOUT_FILENO, b" rows");

@@ -95,6 +95,23 @@ pub fn write_set(set: u8, out: &mut [u16]) -> usize
     end
 }
 
+fn wide(node: u16) -> usize {
+    node as usize
+}
+
+// The set of a row: its numbers other than 0.
+pub fn set_of(row: &[u16]) -> u8 {
+    let mut set = 0;
+    let mut i = 0;
+    while i < row.len() {
+        if row[i] != 0 {
+            set = with(set, wide(row[i]));
+        }
+        i += 1;
+    }
+    set
+}
+
 // ---- routes
 
 // The parent of v, 0 of the server.

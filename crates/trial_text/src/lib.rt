@@ -5,6 +5,7 @@
 ghost use Prim.Native.Nat.{_≤_, _<_};
 ghost use lib.ListN.{length};
 use libc::STDOUT_FILENO;
+use tree_file::Ruling;
 
 // The index of the first such byte from `at` on, else the length.
 pub fn index_of(text: &[u8], at: usize, byte: u8) -> usize
@@ -195,6 +196,18 @@ pub fn all_from(words: &[u64], at: usize, value: u64) -> bool {
 }
 
 // ---- answers, to standard output
+
+// Prints ` accepted`, or ` refused` with the rule and the record.
+pub fn print_ruling(ruling: Ruling) {
+    match ruling {
+        Ruling::Passed => {
+            io::write_all(STDOUT_FILENO, b" accepted");
+        }
+        Ruling::Broken(rule, record) => {
+            print_refused(rule, record);
+        }
+    }
+}
 
 pub fn print_refused(rule: u8, record: u16) {
     io::write_all(STDOUT_FILENO, b" refused");

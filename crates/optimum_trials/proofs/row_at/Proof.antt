@@ -5,10 +5,10 @@ use Rattle.optimum_trials.proofs.row_at.Statement.{statement}
 use Rattle.optimum_trials.proofs.row_at.Tie as tie
 
 mul-result : tie.Need-mul-result
-mul-result c = omega (arith, mul-le-mul {n₁ = c .args .b} {m₁ = c .args .k} {n₂ = 6} {m₂ = 6} (c .pre .0) (c .pre .1))
+mul-result c = omega (arith, mul-le-mul {n₁ = c .args .b} {m₁ = c .args .k} {n₂ = 7} {m₂ = 6} (c .pre .0) (c .pre .1))
 
 returns : tie.Need-returns
-returns c = mul-le-mul {n₁ = c .args .b} {m₁ = c .args .k} {n₂ = 6} {m₂ = 6} (c .pre .0) (c .pre .1)
+returns c = mul-le-mul {n₁ = c .args .b} {m₁ = c .args .k} {n₂ = 7} {m₂ = 6} (c .pre .0) (c .pre .1)
 
 pub row-at-spec : {M : Type 1} → statement M
 row-at-spec = tie.close (tie.spec mul-result returns)
