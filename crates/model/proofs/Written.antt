@@ -33,6 +33,10 @@ pub length-after : (v : Verdict) (written old : List ℕ) → length written ≤
 length-after passed written old h = simp (length-append, length-drop) (omega arith)
 length-after (broken q i) written old h = omega arith
 
+-- what is written has its place, whatever the buffer was
+pub written-there : {m : ℕ} (written old : List ℕ) → length written ≡ m → m ≤ length (after passed written old)
+written-there written old e = simp length-append (omega arith)
+
 -- ---- what each call writes
 
 pub length-row : (k : ℕ) (vs : List ℕ) → length vs ≤ k → length (row k vs) ≡ k

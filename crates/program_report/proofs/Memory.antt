@@ -12,7 +12,7 @@ use Rattle.laws.proofs.Bools.{both}
 use Rattle.model.specs.File.{treeOf, countOf, budgetOf}
 use Rattle.model.specs.Tree.{height}
 use Rattle.model.specs.Rules.{Verdict, passed, isPassed, fileVerdict, accepted, scratchWords}
-use Rattle.model.specs.Calls.{after, planTotals, planRows, planBuffersLong, greedyTotals, greedyBuffersLong}
+use Rattle.model.specs.Calls.{after, planTotals, planRows, greedyTotals}
 use Rattle.model.specs.Report.{programNodes, programHeight, programBudget, isSmall, reportVerdict, ReportCall}
 use Rattle.model.proofs.Reported.{report-passes}
 use Rattle.lent.proofs.Asked.{words-grow}
@@ -38,7 +38,7 @@ module _ (file : List ℕ) (small : isSmall file ≡ true) where
       let n = limits .0 in
       omega arith
 
-  pub rows-within : suc (budgetOf file) * budgetOf file ≤ suc programBudget * programBudget
+  rows-within : suc (budgetOf file) * budgetOf file ≤ suc programBudget * programBudget
   rows-within =
       let k = limits .2 in
       let s : suc (budgetOf file) ≤ suc programBudget = omega arith in

@@ -1,5 +1,5 @@
 -- The program's questions: its first look, rules 1 to 11, and the rest of rule 15.
-use mathlib.Core.Path.{_≡_, ap, _∙_}
+use mathlib.Core.Path.{_≡_}
 use mathlib.Core.Bool.{Bool, true, false, _&&_}
 use mathlib.Core.List.{List}
 use Prim.Native.Nat.{ℕ, _≤_, _<_}
@@ -8,7 +8,7 @@ use lib.Dec.{leb, ltb}
 use lib.ListN.{length, length-take, take}
 use lib.Seq.{length-take-le, take-all}
 use borrow.Author.Tests.{lt-ltb, ltb-true}
-use Rattle.model.specs.Rules.{passed, broken, _then_, fileVerdict, askProgram}
+use Rattle.model.specs.Rules.{passed, _then_, fileVerdict, askProgram}
 use Rattle.model.specs.Calls.{answered, refused, answer}
 use Rattle.model.specs.Report.{firstLook, programNodes, programHeight, programBudget, isSmall, programVerdict}
 use Rattle.model.proofs.Verdicts.{ask-passed, then-passed}

@@ -20,6 +20,7 @@ const HEIGHT: usize = 8;
 
 pub const BUDGET: usize = 8;
 
+// What rules 13 and 14 ask for at these limits.
 const TOTALS: usize = BUDGET + 1;
 
 const ROWS: usize = TOTALS * BUDGET;

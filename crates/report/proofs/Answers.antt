@@ -1,8 +1,8 @@
 -- The report call, answer by answer: a refusal writes nothing, and what is written meets demand 3.
-use mathlib.Core.Path.{_≡_, refl, sym, ap, ap₂, _∙_}
+use mathlib.Core.Path.{_≡_, refl, sym, ap₂, _∙_}
 use mathlib.Core.Bool.{Bool, true, false, _&&_}
 use mathlib.Core.List.{List}
-use Prim.Native.Nat.{ℕ, suc, _*_, _≤_}
+use Prim.Native.Nat.{ℕ, suc, _*_}
 use native.Mathlib.Omega.{arith}
 use lib.Dec.{leb}
 use lib.ListN.{length}
@@ -10,7 +10,7 @@ use lib.Seq.{sets}
 use Rattle.laws.specs.Fronts.{FrontOnly}
 use Rattle.laws.proofs.Bools.{both}
 use Rattle.laws.proofs.Fronts.{front-only-then, front-only-wider}
-use Rattle.model.specs.Rules.{passed, broken, _then_, fileVerdict, scratchWords, askBuffers}
+use Rattle.model.specs.Rules.{passed, broken, _then_, scratchWords, askBuffers}
 use Rattle.model.specs.Calls.{answered, refused, answer, planTotals, planRows, planBuffersLong, greedyBuffersLong}
 use Rattle.model.specs.Report.{reportVerdict, ReportCall}
 use Rattle.model.proofs.Verdicts.{broken≢passed}

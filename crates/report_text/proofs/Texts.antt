@@ -1,27 +1,25 @@
 -- The text of a report and of a refusal, as it is appended to memory of its own.
-use mathlib.Core.Path.{_≡_, refl, sym, ap, _∙_}
-use mathlib.Core.List.{List, _∷_, map, flatMap}
-use Prim.Native.Nat.{ℕ, suc, _+_, _≤_, _<_}
+use mathlib.Core.Path.{_≡_, ap}
+use mathlib.Core.List.{List, flatMap}
+use Prim.Native.Nat.{ℕ, suc, _≤_}
 use native.Mathlib.Numerals.{add-one}
 use native.Mathlib.Omega.{arith}
-use lib.ListN.{length, take, replicate}
+use lib.ListN.{length, take}
 use Rattle.laws.specs.Lists.{range}
 use Rattle.laws.proofs.Rows.{flat-same}
-use Rattle.model.specs.File.{treeOf, demandOf, budgetOf}
-use Rattle.model.specs.Rules.{Verdict, passed, broken}
-use Rattle.model.specs.Plan.{plan, planTotal}
-use Rattle.model.specs.Greedy.{greedyTotal}
-use Rattle.model.specs.Calls.{answered, refused, answer, after, planTotals, planRows, greedyTotals}
-use Rattle.model.specs.Report.{decimal, line, reportText, firstLook, programVerdict, textOf, programText, refusalText}
+use Rattle.model.specs.File.{budgetOf}
+use Rattle.model.specs.Rules.{passed}
+use Rattle.model.specs.Calls.{answered, refused, answer, planTotals, planRows, greedyTotals}
+use Rattle.model.specs.Report.{reportText, firstLook, programVerdict, programText, refusalText}
 use Rattle.model.proofs.Reported.{row-holds-plan, holds-plan-total, holds-greedy-total}
-use Rattle.model.proofs.Written.{length-after, length-plan-totals, length-plan-rows, length-greedy-totals}
+use Rattle.model.proofs.Written.{written-there, length-plan-totals, length-plan-rows, length-greedy-totals}
 use Rattle.fields.specs.declared.Tree as code
 use Rattle.tree_file.specs.Checks.{sizesOf}
 use Rattle.lent.proofs.Asked.{answered-passed, refused-broken}
 use Rattle.program_report.specs.Memory.{reportOf}
 use Rattle.program_report.specs.declared.Report.{Report}
 use Rattle.program_report.proofs.Rules.{program-accepted, accepted-whole}
-use Rattle.program_report.proofs.Memory.{limits, rows-within}
+use Rattle.program_report.proofs.Memory.{limits}
 use Rattle.text_bytes.proofs.Appended.{append-keeps-length, appended-text}
 use Rattle.report_text.specs.Lines.{budgetLine, AppendedWithin, Reported}
 use Rattle.report_text.specs.Texts.{Prints}
@@ -45,16 +43,13 @@ module _ (file : List ℕ) where
   pub memory-reported : programVerdict file ≡ passed → {k : ℕ} {r : Report} → k ≡ budgetOf file → r ≡ reportOf file
       → Reported k (r .totals) (r .rows) (r .greedys)
   memory-reported ok budget held =
-      let small = program-accepted file ok .1 in
-      let k = limits file small .2 in
-      let rows = rows-within file small in
-      let zeros : ℕ → List ℕ = λ n. replicate n 0 in
+      let more = add-one (budgetOf file) in
       rw (budget, held)
       (record {
-        small = k;
-        totalsLong = omega (arith, length-plan-totals file, length-after passed (planTotals file) (zeros 9) (omega (arith, length-plan-totals file)));
-        rowsLong = rw (add-one (budgetOf file)) (omega (arith, length-plan-rows file, length-after passed (planRows file) (zeros 72) (omega (arith, length-plan-rows file))));
-        greedysLong = omega (arith, length-greedy-totals file, length-after passed (greedyTotals file) (zeros 9) (omega (arith, length-greedy-totals file)));
+        small = limits file (program-accepted file ok .1) .2;
+        totalsLong = rw more (written-there (planTotals file) _ (length-plan-totals file));
+        rowsLong = rw more (written-there (planRows file) _ (length-plan-rows file));
+        greedysLong = rw more (written-there (greedyTotals file) _ (length-greedy-totals file));
       })
 
   -- and its lines are the report's text
