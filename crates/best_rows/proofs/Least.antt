@@ -1,9 +1,8 @@
 -- Laws of the first of the least: it is less than every other or as small and no later, and a loop that keeps the least has it.
 use mathlib.Core.Path.{_≡_, refl, ap}
 use mathlib.Core.Bool.{cond}
-use Prim.Native.Nat.{ℕ, zero, suc, _+_, _≤_, _<_, min}
+use Prim.Native.Nat.{ℕ, zero, suc, _≤_, _<_, min}
 use native.Mathlib.Decide.{decLe}
-use native.Mathlib.Numerals.{add-one}
 use native.Mathlib.Omega.{arith}
 use lib.Dec.{ltb}
 use borrow.Author.Tests.{ltb-true, ltb-false}
@@ -45,15 +44,6 @@ module _ (f : ℕ → ℕ) where
             let earlier = first-least-within n in
             better-cases (λ i. Wins i j) f _ _ (λ h. omega arith) (λ h. omega arith)
       ]
-
-  -- a turn of a loop that keeps the first of the least, and of one that keeps the least
-  pub first-least-next : (n : ℕ) → firstLeast f (n + 1) ≡ better f (firstLeast f n) (n + 1)
-  unfolding firstLeast
-  first-least-next n = rw add-one
-
-  pub low-next : (top n : ℕ) → low top f (n + 1) ≡ min (low top f n) (f n)
-  unfolding low
-  low-next top n = rw add-one
 
   -- the least that a loop keeps is f at the first of the least, or top
   pub low-is : (top n : ℕ) → low top f (suc n) ≡ min top (f (firstLeast f n))

@@ -1,21 +1,19 @@
 -- Laws of the clients that reach a node, those that a cache there would serve, and of the distances of serving nodes.
 use mathlib.Core.Path.{_≡_, refl, sym, ap, _∙_}
-use mathlib.Core.Bool.{Bool, true, false, cond, _&&_, _||_, not, and-false}
-use mathlib.Core.List.{List, [], _∷_}
+use mathlib.Core.Bool.{true, false, cond, _&&_, _||_, not, and-false}
+use mathlib.Core.List.{List}
 use Prim.Native.Nat.{ℕ, zero, suc, _≤_, _<_}
-use native.Mathlib.Decide.{ℕ-discrete}
 use native.Mathlib.Omega.{arith}
 use lib.Dec.{eqb}
 use borrow.Author.Tests.{eq-eqb, ne-eqb, eqb-true}
-use Rattle.laws.specs.Lists.{sum, has, anyOf}
+use Rattle.laws.specs.Lists.{sum, has}
 use Rattle.laws.proofs.Bools.{by-test}
-use Rattle.laws.proofs.Lists.{has-head, has-other}
 use Rattle.laws.proofs.Sums.{sum-those}
 use Rattle.model.specs.File.{Tree, Demand}
-use Rattle.model.specs.Tree.{nodes, route, atOrBelow, distance}
-use Rattle.model.specs.Bill.{upTo, serving}
+use Rattle.model.specs.Tree.{nodes, distance}
+use Rattle.model.specs.Bill.{serving}
 use Rattle.model.specs.Greedy.{withNode}
-use Rattle.model.proofs.Routes.{route-server, Preorder, parent-before, route-up, by-route}
+use Rattle.model.proofs.Routes.{Preorder, parent-before, by-route}
 use Rattle.model.proofs.Nearest.{serving-server, serving-up, serving-near}
 use Rattle.model.proofs.WithNode.{has-with-node}
 use Rattle.greedy.specs.Savings.{cachable, reaches, servingDistance, reach}
@@ -25,23 +23,6 @@ pub reach-counts : (t : Tree) (d : Demand) (k : List ℕ) (x : ℕ)
     → reach t d k x ≡ sum (λ c. cond (reaches t k x c) (cachable d c) 0) (nodes t)
 unfolding reach
 reach-counts t d k x = sum-those (cachable d) (reaches t k x) (nodes t)
-
-module _ (k : List ℕ) (x : ℕ) where
-  -- is x on the route, and no other member of K on its part up to x?
-  abbrev climbs : List ℕ → Bool
-  climbs r = has r x && not (anyOf (λ u. not (eqb x u) && has k u) (upTo x r))
-
-  climbs-here : (v : ℕ) (r : List ℕ) → x ≡ v → climbs (v ∷ r) ≡ true
-  unfolding upTo anyOf
-  climbs-here v r e = rw (e, has-head v r, eq-eqb v v refl)
-
-  climbs-past : (v : ℕ) (r : List ℕ) → (x ≡ v → ⊥) → climbs (v ∷ r) ≡ (not (has k v) && climbs r)
-  unfolding upTo anyOf
-  climbs-past v r n =
-      let n′ : v ≡ x → ⊥ = λ e. n (sym e) in
-      rw (has-other v x r n′, ne-eqb v x n′, ne-eqb x v n)
-      (by-test (λ b. (has r x && not (b || anyOf (λ u. not (eqb x u) && has k u) (upTo x r))) ≡ (not b && climbs r)) (has k v)
-      (λ _. and-false (has r x)) (λ _. refl))
 
 module _ (t : Tree) (pre : Preorder t) (k : List ℕ) where
   -- the server's own client is served there
@@ -85,21 +66,6 @@ module _ (t : Tree) (pre : Preorder t) (k : List ℕ) where
       self : (y : ℕ) → x ≡ y → reaches t k x y ≡ true
       self zero e = rw reaches-server (eq-eqb x 0 e)
       self (suc i) e = rw (reaches-up i, eq-eqb x (suc i) e)
-
-    -- a client reaches x just where it is at or below x and meets no other member of K on its way up to x
-    pub reaches-means : (c : ℕ)
-        → reaches t k x c ≡ (atOrBelow t x c && not (anyOf (λ u. not (eqb x u) && has k u) (upTo x (route t c))))
-    unfolding atOrBelow has
-    reaches-means =
-        by-route t pre (λ c. reaches t k x c ≡ climbs k x (route t c))
-        (rw (route-server t, reaches-server) (elim (ℕ-discrete x 0) [
-          | yes e ↦ eq-eqb x 0 e ∙ sym (climbs-here k x 0 [] e)
-          | no e ↦ ne-eqb x 0 e ∙ sym (climbs-past k x 0 [] e ∙ and-false (not (has k 0)))
-        ]))
-        (λ i ih. rw (route-up t pre i, reaches-up i) (elim (ℕ-discrete x (suc i)) [
-          | yes e ↦ rw (eq-eqb x (suc i) e) (sym (climbs-here k x (suc i) (route t (t .parent (suc i))) e))
-          | no e ↦ rw (ne-eqb x (suc i) e, ih) (sym (climbs-past k x (suc i) (route t (t .parent (suc i))) e))
-        ]))
 
     -- no client before a node reaches it
     pub reaches-before : (c : ℕ) → c < x → reaches t k x c ≡ false

@@ -5,15 +5,12 @@ use Prim.Native.Nat.{ℕ, zero, suc, _+_, _*_, _≤_, _<_}
 use native.Mathlib.Nat.{add-suc, suc-add, zero-add, add-zero, suc-mul, zero-mul}
 use native.Mathlib.Numerals.{add-one}
 use native.Mathlib.Omega.{arith}
-use lib.ListN.{length, length-append, take, drop, set, getD, length-take, length-drop}
+use lib.ListN.{length, length-append, take, drop, set, getD, length-drop}
 use lib.Seq.{take-suc, getD-drop, drop-append-add, sets, sets-eq, drop-set-lt, take-set-le, take-at, drop-at, length-take-le}
 use Rattle.laws.specs.Lists.{range, part}
 use Rattle.laws.proofs.Lists.{length-of-range, range-snoc, map-append}
 
 -- ---- parts
-
-pub length-part : (l : List ℕ) (p w : ℕ) → p + w ≤ length l → length (part l p w) ≡ w
-length-part l p w h = simp (length-take, length-drop) (omega arith)
 
 -- a part that is one entry longer
 pub part-snoc : (l : List ℕ) (p w : ℕ) → p + w < length l → part l p (suc w) ≡ part l p w ++ (getD l (p + w) 0 ∷ [])
@@ -80,11 +77,6 @@ part-same l i xs w e h =
     ap (λ (s : List ℕ). part s i w) (sets-eq xs l i (omega arith) ∙ append-assoc (take i l) xs (drop (i + length xs) l))
     ∙ ap (take w) (drop-at (take i l) (xs ++ drop (i + length xs) l) i (length-take-le i l (omega arith)))
     ∙ take-at xs (drop (i + length xs) l) w e
-
--- what a slice holds after its part from i to e was lent and came back holding xs
-pub part-back : (l : List ℕ) (i e : ℕ) (xs : List ℕ) → i + length xs ≡ e → e ≤ length l → take i l ++ (xs ++ drop e l) ≡ sets l i xs
-part-back l i e xs h k =
-    sym (sets-eq xs l i (omega arith) ∙ append-assoc (take i l) xs (drop (i + length xs) l) ∙ ap (λ (n : ℕ). take i l ++ (xs ++ drop n l)) h)
 
 -- ---- a loop that writes f 0, f 1, .. from index i on: where it begins, and a turn
 

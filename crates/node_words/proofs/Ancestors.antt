@@ -46,7 +46,7 @@ module _ (t : Tree) (pre : Preorder t) where
       let above : a ≤ depth t up = omega (arith, child-depth v up k refl) in
       child-ancestor u up a h e above ∙ sym (child-ancestor v up a k refl above)
 
-  -- ---- an ancestor's own depth and place
+  -- ---- an ancestor's own place
 
   -- what holds of each node with itself, and of a node if of its parent, holds of each node with each of its ancestors
   by-ancestor : (P : ℕ → ℕ → ℕ → Type 0) → ((v : ℕ) → P v (depth t v) v) → ((i a u : ℕ) → P (t .parent (suc i)) a u → P (suc i) a u)
@@ -62,9 +62,6 @@ module _ (t : Tree) (pre : Preorder t) where
             rw (child-ancestor (suc i) p a (omega arith) refl k) (up i a (ancestorAt t p a) (above a k))
         | no l ↦ let z : a ≡ depth t (suc i) = omega arith in rw (z, ancestor-self (suc i)) (own (suc i))
       ])
-
-  pub ancestor-depth : (v a : ℕ) → a ≤ depth t v → depth t (ancestorAt t v a) ≡ a
-  ancestor-depth = by-ancestor (λ v a u. depth t u ≡ a) (λ v. refl) (λ i a u h. h)
 
   -- an ancestor is not after its node, and not farther from the server
   pub ancestor-before : (v a : ℕ) → a ≤ depth t v → ancestorAt t v a ≤ v

@@ -1,17 +1,16 @@
 -- Laws of the words of nodes: what a store changes, what an accepted file says of its nodes, and what the words say of a node.
 use mathlib.Core.Path.{_≡_, sym, _∙_}
 use mathlib.Core.List.{List}
-use Prim.Native.Nat.{ℕ, zero, suc, _+_, _*_, _≤_, _<_}
+use Prim.Native.Nat.{ℕ, zero, suc, _+_, _*_, _<_}
 use native.Mathlib.Decide.{ℕ-discrete}
 use native.Mathlib.Omega.{arith}
 use lib.ListN.{take, set, length-set}
 use lib.Seq.{getD-set-same, getD-set-other}
 use Rattle.laws.specs.Fronts.{FrontOnly}
 use Rattle.laws.proofs.Fronts.{same-front-entry}
-use Rattle.model.specs.File.{Tree, Demand, treeOf, demandOf, mostDepth, mostLength}
+use Rattle.model.specs.File.{Tree, treeOf, demandOf}
 use Rattle.model.proofs.Routes.{parent-before}
 use Rattle.model.proofs.Accepted.{accepted-header, Sound, accepted-sound}
-use Rattle.model.proofs.Bounds.{distance-bound}
 use Rattle.fields.specs.Table.{InFile}
 use Rattle.best_rows.proofs.TreeRows.{NoneOrChild, first-child-stands, next-sibling-stands}
 use Rattle.node_words.specs.Words.{wordAt, distanceWord, depthWord, childWord, siblingWord, wordOf, HasNode, NodeRoom, SiteRoom, NodeWords, withPair, Noted}
@@ -107,10 +106,3 @@ module _ (t : Tree) (s : List ℕ) (w : NodeWords t s) (v : ℕ) (h : v < t .cou
   -- a next sibling is none, or a later node with the same parent
   pub sibling-word-stands : 0 < v → NoneOrChild t v (t .parent v) (wordOf s v siblingWord)
   sibling-word-stands p = rw (w .sibling v p h) (next-sibling-stands t v)
-
-  module _ (d : Demand) (ok : Sound t d) where
-    pub distance-word-small : wordOf s v distanceWord ≤ mostLength * mostDepth
-    distance-word-small = rw (w .distance v h) (distance-bound t d ok v)
-
-    pub depth-word-small : wordOf s v depthWord ≤ mostDepth
-    depth-word-small = rw (w .depth v h) (ok .shallow v)

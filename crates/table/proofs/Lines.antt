@@ -3,20 +3,19 @@ use mathlib.Core.Path.{_≡_, sym, ap, _∙_}
 use mathlib.Core.Bool.{cond}
 use mathlib.Core.List.{List, map}
 use mathlib.Core.Logic.{_⊎_, inl, inr}
-use Prim.Native.Nat.{ℕ, _≤_, _<_}
-use lib.ListN.{length, take, getD}
+use Prim.Native.Nat.{ℕ, _<_}
+use lib.ListN.{length, take}
 use Rattle.laws.specs.Lists.{range, bit}
 use Rattle.laws.proofs.Lists.{length-of-range}
-use Rattle.laws.proofs.FrontValues.{same-on-range, entry-of-range-alone}
+use Rattle.laws.proofs.FrontValues.{same-on-range}
 use Rattle.model.specs.File.{Tree, Demand}
 use Rattle.model.specs.Bill.{price}
 use Rattle.model.proofs.Accepted.{Sound}
-use Rattle.best_rows.specs.Rows.{rowSize}
-use Rattle.best_rows.specs.Best.{cap, cell, best}
-use Rattle.best_rows.specs.TreeRows.{firstChild, nextSibling, rowAt}
+use Rattle.best_rows.specs.Best.{cell, best}
+use Rattle.best_rows.specs.TreeRows.{firstChild, nextSibling}
 use Rattle.best_rows.specs.BestAt.{one, prefer, site, bestAt, childrenAt}
 use Rattle.best_rows.proofs.TreeRows.{row-at-none, row-at-node}
-use Rattle.best_rows.proofs.Table.{best-at-within-cap, best-at-over}
+use Rattle.best_rows.proofs.Table.{best-at-within-cap}
 use Rattle.node_words.specs.Ancestors.{ancestorAt}
 use Rattle.lines.specs.Line.{LineParts, lineCell, emptyCell}
 use Rattle.lines.proofs.Known.{Known, known-parts, known-line, empty-is-best}
@@ -38,21 +37,6 @@ module _ (t : Tree) (d : Demand) where
     pub length-line-for : (x a : ℕ) → length (lineFor t d w x a) ≡ w
     unfolding lineFor
     length-line-for x a = length-of-range _ 0 w
-
-    -- ---- an entry of a line
-
-    pub line-entry : (x a n : ℕ) → n < w → getD (lineFor t d w x a) n 0 ≡ bestAt t d x (ancestorAt t x a) n
-    unfolding lineFor
-    line-entry x a n h = entry-of-range-alone _ w n h
-
-    pub line-within-cap : (x a n : ℕ) → n < w → getD (lineFor t d w x a) n 0 ≤ cap
-    line-within-cap x a n h = rw (line-entry x a n h) (best-at-within-cap t d x (ancestorAt t x a) n)
-
-    -- past the row's size there is no choice
-    pub line-over-size : (x a n : ℕ) → n < w → rowSize (rowAt t x) < n → getD (lineFor t d w x a) n 0 ≡ cap
-    line-over-size x a n h k = line-entry x a n h ∙ best-at-over t d x (ancestorAt t x a) n k
-
-    -- ---- whole lines
 
     empty-under : (c : ℕ) → map (bestAt t d 0 c) (range 0 w) ≡ map emptyCell (range 0 w)
     empty-under c = same-on-range _ _ 0 w (λ m _ _. best-at-empty c m)

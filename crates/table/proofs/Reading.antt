@@ -18,10 +18,10 @@ use Rattle.best_rows.proofs.TreeRows.{NoneOrChild, first-child-stands, next-sib
 use Rattle.node_words.specs.Words.{HasNode, wordOf, depthWord, childWord, siblingWord}
 use Rattle.node_words.specs.Ancestors.{ancestorAt}
 use Rattle.node_words.proofs.Words.{child-word-stands, sibling-word-stands}
-use Rattle.node_words.proofs.Ancestors.{ancestor-self, child-depth, child-ancestor, sibling-depth, sibling-ancestor, ancestor-server, ancestor-before, ancestor-nearer}
+use Rattle.node_words.proofs.Ancestors.{ancestor-self, child-depth, child-ancestor, sibling-depth, sibling-ancestor, ancestor-before, ancestor-nearer}
 use Rattle.lines.specs.Line.{mostWidth}
 use Rattle.lines.proofs.Known.{Known}
-use Rattle.table.specs.Table.{width, lineNumber, tableEnd, InTable, lineIn, FilledFrom, TableFrom, Table, Served, Client}
+use Rattle.table.specs.Table.{width, lineNumber, tableEnd, InTable, lineIn, FilledFrom, TableFrom, Served, Client}
 use Rattle.table.proofs.Lines.{line-under}
 use Rattle.table.proofs.Room.{room-sound, room-count, room-long, room-place, room-depth, ready-node, ready-client}
 
@@ -142,12 +142,3 @@ module _ {file : List ℕ} {sizes : code.Tree} {s : List ℕ} {i : ℕ} (r : Tab
 pub next-before : {file : List ℕ} {sizes : code.Tree} {s : List ℕ} {v a u i : ℕ} → TableFrom file sizes s i → Served (treeOf file) v a u
     → lineNumber sizes v a + 1 ≤ lineNumber sizes (v + 1) 0
 next-before r at = omega (arith, served-above r at)
-
--- in the whole table, the row of the server's children, and so of every site
-pub server-line : {file : List ℕ} {sizes : code.Tree} {s : List ℕ} {child : ℕ} {l : List ℕ} → Table file sizes s
-    → child ≡ wordOf s 0 childWord → l ≡ lineIn sizes s child 0
-    → l ≡ map (bestAt (treeOf file) (demandOf file) (firstChild (treeOf file) 0) 0) (range 0 (width sizes))
-server-line {file} r c e =
-    let t = treeOf file in
-    let ok = room-sound (r .ready .room) in
-    e ∙ rw (c, r .ready .words .child 0 (ok .some)) (rw (ancestor-server t (ok .preorder) 0) at (children-line r 0 (ok .some) (omega arith) 0 (omega arith)))
