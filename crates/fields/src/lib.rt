@@ -7,7 +7,7 @@ ghost use Rattle.model.specs.File.{number, fieldOf, headerLength, versionOf, co
 ghost use Rattle.model.specs.Bill.{thousandths};
 ghost use Rattle.fields.specs.Table.{rowOf, fieldAt, InFile};
 
-// What an accepted file says of its tree: n, k and h. The associated constants are the sizes of the tree file.
+// What an accepted file says of its tree: n, k and h. The associated constants are the tree file's version, sizes and places.
 pub struct Tree {
     pub nodes: usize,
     pub budget: usize,
@@ -34,7 +34,16 @@ impl Tree {
 
     pub const HIT: u64 = 1_000;
 
+    pub const VERSION: u64 = 1;
+
     pub const HEADER: usize = 9;
+
+    // where the version, n and k stand
+    const VERSION_AT: usize = 3;
+
+    const NODES_AT: usize = 5;
+
+    const BUDGET_AT: usize = 7;
 
     pub const RECORD: usize = 10;
     // parent, length, flow, hit
@@ -118,7 +127,7 @@ pub fn version_of(file: &[u8]) -> u64
     requires { ⌜ headerLength ≤ length (now file) ⌝ }
     ensures { λ r. ⌜ r ≡ versionOf (now (file .entry)) ⌝ }
 {
-    number_at(file, 3, 2)
+    number_at(file, Tree::VERSION_AT, 2)
 }
 
 // n, the number of nodes.
@@ -126,7 +135,7 @@ pub fn count_of(file: &[u8]) -> usize
     requires { ⌜ headerLength ≤ length (now file) ⌝ }
     ensures { λ r. ⌜ r ≡ countOf (now (file .entry)) ⌝ }
 {
-    number_at(file, 5, 2) as usize
+    number_at(file, Tree::NODES_AT, 2) as usize
 }
 
 // k, the budget.
@@ -134,7 +143,7 @@ pub fn budget_of(file: &[u8]) -> usize
     requires { ⌜ headerLength ≤ length (now file) ⌝ }
     ensures { λ r. ⌜ r ≡ budgetOf (now (file .entry)) ⌝ }
 {
-    number_at(file, 7, 2) as usize
+    number_at(file, Tree::BUDGET_AT, 2) as usize
 }
 
 pub fn parent_of(file: &[u8], v: usize) -> usize

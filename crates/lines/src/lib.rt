@@ -10,8 +10,8 @@ ghost use Rattle.best_rows.specs.Best.{cap};
 ghost use Rattle.lines.specs.Line.{mostWidth, Line, NoneFrom, NodeParts, LineParts, RowParts, lineSide, lineTakes, lineNode, lineSplit, lineLater, lineCell, rowCell, Lowered, emptyCell};
 use units::Total;
 
-// The most entries of a line: budgets from 0 to 32.
-pub const WIDTH: usize = 33;
+// The most entries of a line: one for each budget from 0 to the largest.
+pub const WIDTH: usize = fields::Tree::BUDGET + 1;
 
 // What a node and its children cost, with the node as a cache and without.
 struct Sides {

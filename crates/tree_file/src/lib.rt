@@ -151,7 +151,7 @@ pub fn file_ruling(file: &[u8]) -> Ruling
     if !is_marked(file) {
         return Ruling::Broken(2, 0);
     }
-    if fields::version_of(file) != 1 {
+    if fields::version_of(file) != fields::Tree::VERSION {
         return Ruling::Broken(3, 0);
     }
     let n = fields::count_of(file);
