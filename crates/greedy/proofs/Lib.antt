@@ -8,4 +8,4 @@ mod BestSite
 mod EmptySet
 mod Turns
 mod Runs
-pub mod Call
+pub mod Answers

@@ -1,5 +1,5 @@
 -- What an answer says of the verdict behind it, and rules 13 and 14 after rules 1 to 11.
-use mathlib.Core.Path.{_≡_, refl}
+use mathlib.Core.Path.{_≡_, refl, sym, ap, ap₂, _∙_}
 use mathlib.Core.Bool.{Bool, false, _&&_}
 use mathlib.Core.List.{List}
 use Prim.Native.Nat.{ℕ, suc, _+_, _*_, _≤_, _<_}
@@ -97,11 +97,21 @@ then-grouped : (a b c : Verdict) → (a then b then c) ≡ ((a then b) then c)
 then-grouped passed b c = refl
 then-grouped (broken q i) b c = refl
 
--- the verdict of a call with lent scratch and buffers
-pub then-buffers : (file scratch : List ℕ) (long : Bool)
-    → (fileVerdict file then askScratch file scratch then askBuffers long) ≡ (lentVerdict file (length scratch) then askBuffers long)
-unfolding lentVerdict
-then-buffers file scratch long = then-grouped (fileVerdict file) (askScratch file scratch) (askBuffers long)
+-- the verdict of a call with lent scratch and buffers: a refusal before rule 14 stands, and else rule 14 decides
+module _ (file scratch : List ℕ) (long : Bool) where
+  grouped : (fileVerdict file then askScratch file scratch then askBuffers long) ≡ (lentVerdict file (length scratch) then askBuffers long)
+  unfolding lentVerdict
+  grouped = then-grouped (fileVerdict file) (askScratch file scratch) (askBuffers long)
+
+  pub refused-before-buffers : {q i : ℕ} → refused q i ≡ answer (lentVerdict file (length scratch)) (sizesOf file)
+      → broken q i ≡ (fileVerdict file then askScratch file scratch then askBuffers long)
+  refused-before-buffers e =
+      sym (grouped ∙ ap (λ v. v then askBuffers long) (refused-broken (lentVerdict file (length scratch)) (sizesOf file) e))
+
+  pub buffers-decide : {sizes : code.Tree} {b : Bool} → answered sizes ≡ answer (lentVerdict file (length scratch)) (sizesOf file) → long ≡ b
+      → askBuffers b ≡ (fileVerdict file then askScratch file scratch then askBuffers long)
+  buffers-decide e h =
+      sym (grouped ∙ ap₂ (λ v x. v then askBuffers x) (answered-passed (lentVerdict file (length scratch)) (sizesOf file) e .0) h)
 
 -- k + 1 totals, as they are asked before the rest of a call's buffers
 module _ (k totals : ℕ) (rest : Bool) where

@@ -2,7 +2,7 @@
 use mathlib.Core.Path.{_≡_, refl, sym, ap, _∙_}
 use mathlib.Core.Bool.{true, not, _&&_}
 use mathlib.Core.Logic.{_↔_}
-use mathlib.Core.List.{List, [], _∷_, _++_}
+use mathlib.Core.List.{List, [], _∷_, _++_, map}
 use Prim.Native.Nat.{ℕ, suc, _-_, _≤_}
 use native.Mathlib.Nat.{zero-add}
 use native.Mathlib.Omega.{arith}
@@ -16,7 +16,7 @@ use Rattle.model.specs.File.{Tree, Demand, treeOf, demandOf, budgetOf}
 use Rattle.model.specs.Rules.{passed, isPassed, fileVerdict, accepted, ascends, enoughScratch, askScratch}
 use Rattle.model.specs.Plan.{plan, planTotal, row}
 use Rattle.model.specs.Greedy.{greedyTotal}
-use Rattle.model.specs.Calls.{after, planTotals, planRows, planBuffersLong, greedyTotals, greedyBuffersLong}
+use Rattle.model.specs.Calls.{after, budgets, planTotals, planRows, planBuffersLong, greedyTotals, greedyBuffersLong}
 use Rattle.model.specs.Report.{HoldsOptimum, setOfRow, DemandThree, reportVerdict}
 use Rattle.model.proofs.Verdicts.{ask-passed, then-passed, is-passed}
 use Rattle.model.proofs.Accepted.{Sound, accepted-sound}
@@ -70,13 +70,16 @@ module _ (file : List ℕ) where
       )
       (those-of-row 0 (t .count) (k - length (plan t d b)) (plan t d b) (plan-ranks-first t d b .isASet))
 
+  holds-entry : (f : ℕ → ℕ) (rest : List ℕ) (b : ℕ) → b ≤ budgetOf file → getD (map f (budgets file) ++ rest) b 0 ≡ f b
+  holds-entry f rest b h = entry-of-range f 0 (suc (budgetOf file)) b rest (omega arith) ∙ ap f (zero-add b)
+
   pub holds-plan-total : (rest : List ℕ) (b : ℕ) → b ≤ budgetOf file → getD (planTotals file ++ rest) b 0 ≡ planTotal t d b
   unfolding planTotals
-  holds-plan-total rest b h = entry-of-range (planTotal t d) 0 (suc (budgetOf file)) b rest (omega arith) ∙ ap (planTotal t d) (zero-add b)
+  holds-plan-total = holds-entry (planTotal t d)
 
   pub holds-greedy-total : (rest : List ℕ) (b : ℕ) → b ≤ budgetOf file → getD (greedyTotals file ++ rest) b 0 ≡ greedyTotal t d b
   unfolding greedyTotals
-  holds-greedy-total rest b h = entry-of-range (greedyTotal t d) 0 (suc (budgetOf file)) b rest (omega arith) ∙ ap (greedyTotal t d) (zero-add b)
+  holds-greedy-total = holds-entry (greedyTotal t d)
 
   -- whatever the buffers held
   pub report-meets-demand : fileVerdict file ≡ passed → (totals rows greedys : List ℕ)

@@ -1,5 +1,5 @@
 -- The plan call, answer by answer: a refusal writes nothing, and what is written is the plan.
-use mathlib.Core.Path.{_≡_, refl, sym, _∙_}
+use mathlib.Core.Path.{_≡_, refl, _∙_}
 use mathlib.Core.Bool.{Bool, true, false, _&&_}
 use mathlib.Core.List.{List}
 use Prim.Native.Nat.{ℕ, suc, _+_, _*_, _≤_}
@@ -14,14 +14,14 @@ use Rattle.laws.specs.Fronts.{FrontOnly}
 use Rattle.laws.proofs.Bools.{both}
 use Rattle.laws.proofs.Stores.{sets-front}
 use Rattle.model.specs.File.{budgetOf, mostBudget}
-use Rattle.model.specs.Rules.{passed, broken, _then_, fileVerdict, scratchWords, askBuffers}
+use Rattle.model.specs.Rules.{passed, broken, fileVerdict, scratchWords}
 use Rattle.model.specs.Calls.{answered, refused, answer, after, planTotals, planRows, planBuffersLong, planVerdict, PlanCall}
 use Rattle.model.proofs.Accepted.{accepted-header}
 use Rattle.model.proofs.Written.{length-plan-totals, length-plan-rows}
 use Rattle.fields.specs.declared.Tree as code
 use Rattle.tree_file.specs.Checks.{sizesOf}
 use Rattle.lent.specs.Lent.{lentVerdict}
-use Rattle.lent.proofs.Asked.{answered-passed, refused-broken, lent-accepted, then-buffers, totals-long}
+use Rattle.lent.proofs.Asked.{answered-passed, lent-accepted, refused-before-buffers, buffers-decide, totals-long}
 use Rattle.table.specs.Table.{TableRoom}
 use Rattle.optimum.specs.Budgets.{Buffers}
 
@@ -53,10 +53,6 @@ module _ {file totals rows : List ℕ} (l : Buffers file totals rows) where
 -- ---- each answer
 
 module _ (file scratch totals rows : List ℕ) where
-  verdict-is : planVerdict file scratch totals rows ≡ (lentVerdict file (length scratch) then askBuffers (planBuffersLong file totals rows))
-  unfolding planVerdict
-  verdict-is = then-buffers file scratch (planBuffersLong file totals rows)
-
   refused-whole : {q i : ℕ} → broken q i ≡ planVerdict file scratch totals rows
       → PlanCall file scratch totals rows (broken q i) scratch totals rows
   refused-whole e = record { verdict = e; scratchAfter = refl; totalsAfter = refl; rowsAfter = refl }
@@ -64,36 +60,36 @@ module _ (file scratch totals rows : List ℕ) where
   -- the rules before rule 14 refuse
   pub plan-refused : {q i : ℕ} → refused q i ≡ answer (lentVerdict file (length scratch)) (sizesOf file)
       → PlanCall file scratch totals rows (broken q i) scratch totals rows
-  plan-refused e = refused-whole (sym (verdict-is ∙ rw (refused-broken (lentVerdict file (length scratch)) (sizesOf file) e)))
+  unfolding planVerdict
+  plan-refused e = refused-whole (refused-before-buffers file scratch (planBuffersLong file totals rows) e)
 
   module _ {sizes : code.Tree} (e : answered sizes ≡ answer (lentVerdict file (length scratch)) (sizesOf file)) where
-    sized : (lentVerdict file (length scratch) ≡ passed) × (sizes ≡ sizesOf file)
-    sized = told file scratch e
-
     -- rule 14, as it is asked with the sizes found
     abbrev bothLong : Bool
     bothLong = leb (suc (sizes .budget)) (length totals) && leb (suc (sizes .budget) * sizes .budget) (length rows)
 
+    long-is : {b : Bool} → bothLong ≡ b → planBuffersLong file totals rows ≡ b
+    long-is h = rw (told file scratch e .1) at h
+
     pub plan-short : bothLong ≡ false → PlanCall file scratch totals rows (broken 14 0) scratch totals rows
-    plan-short h = refused-whole (sym (verdict-is ∙ rw (sized .0, rw (sized .1) at h)))
+    unfolding planVerdict
+    plan-short h = refused-whole (buffers-decide file scratch _ e (long-is h))
 
     module _ (h : bothLong ≡ true) where
-      long : planBuffersLong file totals rows ≡ true
-      long = rw (sized .1) at h
-
       pub plan-long : Buffers file totals rows
       plan-long =
           let k = budgetOf file in
-          let l = both (leb (suc k) (length totals)) (leb (suc k * k) (length rows)) long in
+          let l = both (leb (suc k) (length totals)) (leb (suc k * k) (length rows)) (long-is h) in
           record { totalsLong = rw (add-one k) (leb-true _ _ (l .0)); rowsLong = rw (add-one k) (leb-true _ _ (l .1)) }
 
       -- all rules hold
       pub plan-written : {scratch′ totals′ rows′ : List ℕ} → FrontOnly (scratchWords file) scratch scratch′
           → totals′ ≡ sets totals 0 (planTotals file) → rows′ ≡ sets rows 0 (planRows file)
           → PlanCall file scratch totals rows passed scratch′ totals′ rows′
+      unfolding planVerdict
       plan-written s t r =
           record {
-            verdict = sym (verdict-is ∙ rw (sized .0, long));
+            verdict = buffers-decide file scratch _ e (long-is h);
             scratchAfter = (s .long, s .rest);
             totalsAfter = totals-after plan-long t;
             rowsAfter = rows-after plan-long r;

@@ -1,5 +1,5 @@
 -- The report call, answer by answer: a refusal writes nothing, and what is written meets demand 3.
-use mathlib.Core.Path.{_≡_, refl, sym, ap₂, _∙_}
+use mathlib.Core.Path.{_≡_, refl}
 use mathlib.Core.Bool.{Bool, true, false, _&&_}
 use mathlib.Core.List.{List}
 use Prim.Native.Nat.{ℕ, suc, _*_}
@@ -9,7 +9,7 @@ use lib.Seq.{sets}
 use Rattle.laws.specs.Fronts.{FrontOnly}
 use Rattle.laws.proofs.Bools.{both}
 use Rattle.laws.proofs.Fronts.{front-only-then, front-only-wider}
-use Rattle.model.specs.Rules.{passed, broken, _then_, scratchWords, askBuffers}
+use Rattle.model.specs.Rules.{passed, broken, scratchWords}
 use Rattle.model.specs.Calls.{answered, refused, answer, planTotals, planRows, planBuffersLong, greedyBuffersLong}
 use Rattle.model.specs.Report.{reportVerdict, ReportCall}
 use Rattle.model.proofs.Verdicts.{broken≢passed}
@@ -17,10 +17,10 @@ use Rattle.model.proofs.Reported.{report-meets-demand}
 use Rattle.fields.specs.declared.Tree as code
 use Rattle.tree_file.specs.Checks.{sizesOf}
 use Rattle.lent.specs.Lent.{lentVerdict}
-use Rattle.lent.proofs.Asked.{answered-passed, refused-broken, lent-accepted, then-buffers}
+use Rattle.lent.proofs.Asked.{answered-passed, lent-accepted, refused-before-buffers, buffers-decide}
 use Rattle.optimum.proofs.Answers.{plan-room, plan-long, totals-after, rows-after}
 use Rattle.greedy.specs.Run.{Granted, Ran}
-use Rattle.greedy.proofs.Call.{nodes-fit, call-granted}
+use Rattle.greedy.proofs.Answers.{nodes-fit, greedy-granted}
 use Rattle.report.specs.Made.{Lent, Made}
 
 -- ---- both answers
@@ -54,13 +54,6 @@ both-made {file} {sizes} l f t r ran =
 -- ---- each answer
 
 module _ (file scratch totals rows greedys taken : List ℕ) where
-  abbrev long : Bool
-  long = planBuffersLong file totals rows && greedyBuffersLong file greedys taken
-
-  verdict-is : reportVerdict file scratch totals rows greedys taken ≡ (lentVerdict file (length scratch) then askBuffers long)
-  unfolding reportVerdict
-  verdict-is = then-buffers file scratch long
-
   refused-whole : {q i : ℕ} → broken q i ≡ reportVerdict file scratch totals rows greedys taken
       → ReportCall file scratch totals rows greedys taken (broken q i) scratch totals rows greedys taken
   refused-whole e =
@@ -71,13 +64,14 @@ module _ (file scratch totals rows greedys taken : List ℕ) where
         rowsAfter = refl;
         greedysAfter = refl;
         takenAfter = refl;
-        demandThree = λ e. absurd (broken≢passed e);
+        demandThree = λ passes. absurd (broken≢passed passes);
       }
 
   -- the rules before rule 14 refuse
   pub report-refused : {q i : ℕ} → refused q i ≡ answer (lentVerdict file (length scratch)) (sizesOf file)
       → ReportCall file scratch totals rows greedys taken (broken q i) scratch totals rows greedys taken
-  report-refused e = refused-whole (sym (verdict-is ∙ rw (refused-broken (lentVerdict file (length scratch)) (sizesOf file) e)))
+  unfolding reportVerdict
+  report-refused e = refused-whole (refused-before-buffers file scratch (planBuffersLong file totals rows && greedyBuffersLong file greedys taken) e)
 
   module _ {sizes : code.Tree} (e : answered sizes ≡ answer (lentVerdict file (length scratch)) (sizesOf file)) where
     told : (lentVerdict file (length scratch) ≡ passed) × (sizes ≡ sizesOf file)
@@ -90,12 +84,13 @@ module _ (file scratch totals rows greedys taken : List ℕ) where
     abbrev greedyFits : Bool
     greedyFits = leb (suc (sizes .budget)) (length greedys) && leb (sizes .budget) (length taken)
 
-    fits-is : {b : Bool} → (planFits && greedyFits) ≡ b → long ≡ b
-    fits-is h = rw (told .1) at h
+    long-is : {b : Bool} → (planFits && greedyFits) ≡ b → (planBuffersLong file totals rows && greedyBuffersLong file greedys taken) ≡ b
+    long-is h = rw (told .1) at h
 
     pub report-short : (planFits && greedyFits) ≡ false
         → ReportCall file scratch totals rows greedys taken (broken 14 0) scratch totals rows greedys taken
-    report-short h = refused-whole (sym (verdict-is ∙ ap₂ (λ v x. v then askBuffers x) (told .0) (fits-is h)))
+    unfolding reportVerdict
+    report-short h = refused-whole (buffers-decide file scratch _ e (long-is h))
 
     module _ (h : (planFits && greedyFits) ≡ true) where
       pub report-lent : Lent file sizes scratch totals rows greedys taken
@@ -104,17 +99,18 @@ module _ (file scratch totals rows greedys taken : List ℕ) where
           record {
             forPlan = plan-room file scratch e;
             planLong = plan-long file scratch totals rows e (fit .0);
-            forGreedy = call-granted file scratch greedys taken e refl (fit .1);
+            forGreedy = greedy-granted file scratch greedys taken e (fit .1);
           }
 
       -- all rules hold
       pub report-made : {scratch′ totals′ rows′ greedys′ taken′ : List ℕ}
           → Made file scratch totals rows greedys taken scratch′ totals′ rows′ greedys′ taken′
           → ReportCall file scratch totals rows greedys taken passed scratch′ totals′ rows′ greedys′ taken′
+      unfolding reportVerdict
       report-made m =
           let accepted = lent-accepted file (length scratch) (told .0) .0 in
           record {
-            verdict = sym (verdict-is ∙ ap₂ (λ v x. v then askBuffers x) (told .0) (fits-is h));
+            verdict = buffers-decide file scratch _ e (long-is h);
             scratchAfter = (m .front .long, m .front .rest);
             totalsAfter = m .totalsAfter;
             rowsAfter = m .rowsAfter;

@@ -1,0 +1,80 @@
+-- The greedy call, answer by answer: a refusal writes nothing, and what is written is the greedy rule's.
+use mathlib.Core.Path.{_≡_, refl, ap}
+use mathlib.Core.Bool.{Bool, true, false, _&&_}
+use mathlib.Core.List.{List}
+use Prim.Native.Nat.{ℕ, suc, _*_, _≤_}
+use native.Mathlib.Numerals.{add-one}
+use native.Mathlib.Omega.{arith}
+use lib.Dec.{leb}
+use lib.ListN.{length}
+use borrow.Author.Tests.{leb-true}
+use Rattle.laws.proofs.Bools.{both}
+use Rattle.laws.proofs.Fronts.{front-only-past}
+use Rattle.model.specs.File.{countOf}
+use Rattle.model.specs.Rules.{passed, broken, scratchWords}
+use Rattle.model.specs.Calls.{answered, refused, answer, greedyBuffersLong, greedyVerdict, GreedyCall}
+use Rattle.fields.specs.declared.Tree as code
+use Rattle.tree_file.specs.Checks.{sizesOf}
+use Rattle.lent.specs.Lent.{lentVerdict}
+use Rattle.lent.proofs.Asked.{answered-passed, lent-accepted, refused-before-buffers, buffers-decide}
+use Rattle.greedy.specs.Run.{Granted, Ran}
+
+-- the words of the nodes are among those that rule 13 asks for
+pub nodes-fit : (file : List ℕ) → 4 * countOf file ≤ scratchWords file
+unfolding scratchWords
+nodes-fit file = omega arith
+
+module _ (file scratch totals taken : List ℕ) where
+  refused-whole : {q i : ℕ} → broken q i ≡ greedyVerdict file scratch totals taken
+      → GreedyCall file scratch totals taken (broken q i) scratch totals taken
+  refused-whole e = record { verdict = e; scratchAfter = refl; totalsAfter = refl; takenAfter = refl }
+
+  -- the rules before rule 14 refuse
+  pub greedy-refused : {q i : ℕ} → refused q i ≡ answer (lentVerdict file (length scratch)) (sizesOf file)
+      → GreedyCall file scratch totals taken (broken q i) scratch totals taken
+  unfolding greedyVerdict
+  greedy-refused e = refused-whole (refused-before-buffers file scratch (greedyBuffersLong file totals taken) e)
+
+  module _ {sizes : code.Tree} (e : answered sizes ≡ answer (lentVerdict file (length scratch)) (sizesOf file)) where
+    told : (lentVerdict file (length scratch) ≡ passed) × (sizes ≡ sizesOf file)
+    told = answered-passed (lentVerdict file (length scratch)) (sizesOf file) e
+
+    -- rule 14, as it is asked with the sizes found
+    abbrev bothLong : Bool
+    bothLong = leb (suc (sizes .budget)) (length totals) && leb (sizes .budget) (length taken)
+
+    long-is : {b : Bool} → bothLong ≡ b → greedyBuffersLong file totals taken ≡ b
+    long-is h = rw (told .1) at h
+
+    pub greedy-short : bothLong ≡ false → GreedyCall file scratch totals taken (broken 14 0) scratch totals taken
+    unfolding greedyVerdict
+    greedy-short h = refused-whole (buffers-decide file scratch _ e (long-is h))
+
+    module _ (h : bothLong ≡ true) where
+      pub greedy-granted : Granted file (sizes .nodes) (sizes .budget) scratch totals taken
+      greedy-granted =
+          let ok = lent-accepted file (length scratch) (told .0) in
+          let fit = both (leb (suc (sizes .budget)) (length totals)) (leb (sizes .budget) (length taken)) h in
+          record {
+            room = record {
+              accepted = ok .0;
+              count = ap (λ x. x .nodes) (told .1);
+              room = rw (told .1) (omega (arith, ok .1, nodes-fit file));
+            };
+            budget = ap (λ x. x .budget) (told .1);
+            totalsLong = rw (add-one (sizes .budget)) (leb-true _ _ (fit .0));
+            takenLong = leb-true (sizes .budget) (length taken) (fit .1);
+          }
+
+      -- all rules hold
+      pub greedy-written : {scratch′ totals′ taken′ : List ℕ} → Ran file (sizes .nodes) scratch totals taken scratch′ totals′ taken′
+          → GreedyCall file scratch totals taken passed scratch′ totals′ taken′
+      unfolding greedyVerdict
+      greedy-written ran =
+          record {
+            verdict = buffers-decide file scratch _ e (long-is h);
+            scratchAfter =
+                (ran .front .long, front-only-past (4 * sizes .nodes) (scratchWords file) (rw (told .1) (nodes-fit file)) (ran .front));
+            totalsAfter = ran .totalsAfter;
+            takenAfter = ran .takenAfter;
+          }
