@@ -16,13 +16,24 @@ use Rattle.model.specs.Calls.{answered, refused, answer, greedyBuffersLong, gre
 use Rattle.fields.specs.declared.Tree as code
 use Rattle.tree_file.specs.Checks.{sizesOf}
 use Rattle.lent.specs.Lent.{lentVerdict}
-use Rattle.lent.proofs.Asked.{answered-passed, lent-accepted, refused-before-buffers, buffers-decide}
+use Rattle.lent.proofs.Asked.{lent-told, refused-before-buffers, buffers-decide}
 use Rattle.greedy.specs.Run.{Granted, Ran}
 
 -- the words of the nodes are among those that rule 13 asks for
 pub nodes-fit : (file : List ℕ) → 4 * countOf file ≤ scratchWords file
 unfolding scratchWords
 nodes-fit file = omega arith
+
+-- room in a scratch is room in one as long
+pub granted-still : {file : List ℕ} {n k : ℕ} {scratch scratch′ totals taken : List ℕ} → Granted file n k scratch totals taken
+    → length scratch′ ≡ length scratch → Granted file n k scratch′ totals taken
+granted-still g e =
+    record {
+      room = record { accepted = g .room .accepted; count = g .room .count; room = rw e (g .room .room) };
+      budget = g .budget;
+      totalsLong = g .totalsLong;
+      takenLong = g .takenLong;
+    }
 
 module _ (file scratch totals taken : List ℕ) where
   refused-whole : {q i : ℕ} → broken q i ≡ greedyVerdict file scratch totals taken
@@ -36,15 +47,15 @@ module _ (file scratch totals taken : List ℕ) where
   greedy-refused e = refused-whole (refused-before-buffers file scratch (greedyBuffersLong file totals taken) e)
 
   module _ {sizes : code.Tree} (e : answered sizes ≡ answer (lentVerdict file (length scratch)) (sizesOf file)) where
-    told : (lentVerdict file (length scratch) ≡ passed) × (sizes ≡ sizesOf file)
-    told = answered-passed (lentVerdict file (length scratch)) (sizesOf file) e
+    sizes-are : sizes ≡ sizesOf file
+    sizes-are = lent-told file e .2
 
     -- rule 14, as it is asked with the sizes found
     abbrev bothLong : Bool
     bothLong = leb (suc (sizes .budget)) (length totals) && leb (sizes .budget) (length taken)
 
     long-is : {b : Bool} → bothLong ≡ b → greedyBuffersLong file totals taken ≡ b
-    long-is h = rw (told .1) at h
+    long-is h = rw sizes-are at h
 
     pub greedy-short : bothLong ≡ false → GreedyCall file scratch totals taken (broken 14 0) scratch totals taken
     unfolding greedyVerdict
@@ -53,15 +64,15 @@ module _ (file scratch totals taken : List ℕ) where
     module _ (h : bothLong ≡ true) where
       pub greedy-granted : Granted file (sizes .nodes) (sizes .budget) scratch totals taken
       greedy-granted =
-          let ok = lent-accepted file (length scratch) (told .0) in
+          let told = lent-told file e in
           let fit = both (leb (suc (sizes .budget)) (length totals)) (leb (sizes .budget) (length taken)) h in
           record {
             room = record {
-              accepted = ok .0;
-              count = ap (λ x. x .nodes) (told .1);
-              room = rw (told .1) (omega (arith, ok .1, nodes-fit file));
+              accepted = told .0;
+              count = ap (λ x. x .nodes) sizes-are;
+              room = rw sizes-are (omega (arith, told .1, nodes-fit file));
             };
-            budget = ap (λ x. x .budget) (told .1);
+            budget = ap (λ x. x .budget) sizes-are;
             totalsLong = rw (add-one (sizes .budget)) (leb-true _ _ (fit .0));
             takenLong = leb-true (sizes .budget) (length taken) (fit .1);
           }
@@ -74,7 +85,7 @@ module _ (file scratch totals taken : List ℕ) where
           record {
             verdict = buffers-decide file scratch _ e (long-is h);
             scratchAfter =
-                (ran .front .long, front-only-past (4 * sizes .nodes) (scratchWords file) (rw (told .1) (nodes-fit file)) (ran .front));
+                (ran .front .long, front-only-past (4 * sizes .nodes) (scratchWords file) (rw sizes-are (nodes-fit file)) (ran .front));
             totalsAfter = ran .totalsAfter;
             takenAfter = ran .takenAfter;
           }

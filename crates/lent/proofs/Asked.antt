@@ -1,4 +1,4 @@
--- What an answer says of the verdict behind it, and rules 13 and 14 after rules 1 to 11.
+-- Rules 13 and 14 after rules 1 to 11.
 use mathlib.Core.Path.{_≡_, refl, sym, ap, ap₂, _∙_}
 use mathlib.Core.Bool.{Bool, false, _&&_}
 use mathlib.Core.List.{List}
@@ -11,22 +11,12 @@ use borrow.Author.Tests.{leb-true, le-leb, lt-leb}
 use Rattle.model.specs.File.{treeOf, demandOf, mostNodes, mostBudget, mostDepth}
 use Rattle.model.specs.Rules.{Verdict, passed, broken, ask, _then_, fileVerdict, scratchWords, askScratch, askBuffers}
 use Rattle.model.specs.Calls.{answered, refused, answer}
-use Rattle.model.proofs.Verdicts.{ask-passed, then-passed}
+use Rattle.model.proofs.Verdicts.{ask-passed, then-passed, answered-passed, refused-broken}
 use Rattle.model.proofs.Accepted.{accepted-header, accepted-sound}
 use Rattle.model.proofs.Bounds.{height-bound}
 use Rattle.fields.specs.declared.Tree as code
 use Rattle.tree_file.specs.Checks.{sizesOf}
 use Rattle.lent.specs.Lent.{SizesHold, lentVerdict}
-
--- ---- what an answer says of its verdict
-
-pub answered-passed : {A : Type 0} {x : A} (v : Verdict) (y : A) → answered x ≡ answer v y → (v ≡ passed) × (x ≡ y)
-answered-passed passed y e = (refl, cc)
-answered-passed (broken q i) y e = let z : _≡_ {A = ℕ} 0 1 = cc in absurd (omega arith)
-
-pub refused-broken : {A : Type 0} {q i : ℕ} (v : Verdict) (y : A) → refused q i ≡ answer v y → v ≡ broken q i
-refused-broken passed y e = let z : _≡_ {A = ℕ} 0 1 = cc in absurd (omega arith)
-refused-broken (broken q i) y e = cc
 
 -- ---- rule 13
 
@@ -80,16 +70,22 @@ module _ (file : List ℕ) where
   unfolding lentVerdict
   scratch-unasked words q i e = rw (refused-broken (fileVerdict file) (sizesOf file) e)
 
-  pub lent-accepted : (words : ℕ) → lentVerdict file words ≡ passed → (fileVerdict file ≡ passed) × (scratchWords file ≤ words)
+  lent-accepted : (words : ℕ) → lentVerdict file words ≡ passed → (fileVerdict file ≡ passed) × (scratchWords file ≤ words)
   unfolding lentVerdict
   lent-accepted words e =
       let both = then-passed (fileVerdict file) (ask 13 0 (leb (scratchWords file) words)) e in
       (both .0, leb-true (scratchWords file) words (ask-passed 13 0 _ (both .1)))
 
-  pub lent-sizes : (words : ℕ) {sizes : code.Tree} → answered sizes ≡ answer (lentVerdict file words) (sizesOf file) → SizesHold sizes
-  lent-sizes words e =
+  -- where these rules hold, the sizes found are the file's
+  pub lent-told : {words : ℕ} {sizes : code.Tree} → answered sizes ≡ answer (lentVerdict file words) (sizesOf file)
+      → (fileVerdict file ≡ passed) × (scratchWords file ≤ words) × (sizes ≡ sizesOf file)
+  lent-told {words} e =
       let told = answered-passed (lentVerdict file words) (sizesOf file) e in
-      rw (told .1) (accepted-sizes (lent-accepted words (told .0) .0))
+      let ok = lent-accepted words (told .0) in
+      (ok .0, ok .1, told .1)
+
+  pub lent-sizes : (words : ℕ) {sizes : code.Tree} → answered sizes ≡ answer (lentVerdict file words) (sizesOf file) → SizesHold sizes
+  lent-sizes words e = let told = lent-told e in rw (told .2) (accepted-sizes (told .0))
 
 -- ---- rule 14
 

@@ -14,31 +14,21 @@ use Rattle.laws.specs.Fronts.{FrontOnly}
 use Rattle.laws.proofs.Bools.{both}
 use Rattle.laws.proofs.Stores.{sets-front}
 use Rattle.model.specs.File.{budgetOf, mostBudget}
-use Rattle.model.specs.Rules.{passed, broken, fileVerdict, scratchWords}
+use Rattle.model.specs.Rules.{passed, broken, scratchWords}
 use Rattle.model.specs.Calls.{answered, refused, answer, after, planTotals, planRows, planBuffersLong, planVerdict, PlanCall}
-use Rattle.model.proofs.Accepted.{accepted-header}
 use Rattle.model.proofs.Written.{length-plan-totals, length-plan-rows}
 use Rattle.fields.specs.declared.Tree as code
 use Rattle.tree_file.specs.Checks.{sizesOf}
 use Rattle.lent.specs.Lent.{lentVerdict}
-use Rattle.lent.proofs.Asked.{answered-passed, lent-accepted, refused-before-buffers, buffers-decide, totals-long}
+use Rattle.lent.proofs.Asked.{lent-told, refused-before-buffers, buffers-decide, totals-long}
 use Rattle.table.specs.Table.{TableRoom}
 use Rattle.optimum.specs.Budgets.{Buffers}
 
 -- ---- what the rules before rule 14 say, where they hold
 
 module _ (file scratch : List ℕ) {sizes : code.Tree} (e : answered sizes ≡ answer (lentVerdict file (length scratch)) (sizesOf file)) where
-  told : (lentVerdict file (length scratch) ≡ passed) × (sizes ≡ sizesOf file)
-  told = answered-passed (lentVerdict file (length scratch)) (sizesOf file) e
-
-  accepted : fileVerdict file ≡ passed
-  accepted = lent-accepted file (length scratch) (told .0) .0
-
   pub plan-room : TableRoom file sizes scratch
-  plan-room = record { accepted = accepted; of-file = told .1; room = lent-accepted file (length scratch) (told .0) .1 }
-
-  pub plan-budget-fits : sizes .budget ≤ mostBudget
-  plan-budget-fits = rw (told .1) (accepted-header file accepted .budget)
+  plan-room = let told = lent-told file e in record { accepted = told .0; of-file = told .2; room = told .1 }
 
 -- ---- what is written stands in front of the entries beyond it
 
@@ -69,7 +59,7 @@ module _ (file scratch totals rows : List ℕ) where
     bothLong = leb (suc (sizes .budget)) (length totals) && leb (suc (sizes .budget) * sizes .budget) (length rows)
 
     long-is : {b : Bool} → bothLong ≡ b → planBuffersLong file totals rows ≡ b
-    long-is h = rw (told file scratch e .1) at h
+    long-is h = rw (lent-told file e .2) at h
 
     pub plan-short : bothLong ≡ false → PlanCall file scratch totals rows (broken 14 0) scratch totals rows
     unfolding planVerdict

@@ -2,7 +2,7 @@
 use mathlib.Core.Path.{_≡_, ap, _∙_}
 use mathlib.Core.Bool.{true, _&&_}
 use mathlib.Core.List.{List}
-use Prim.Native.Nat.{ℕ, suc, _+_, _*_, _≤_}
+use Prim.Native.Nat.{ℕ, suc, _*_, _≤_}
 use native.Mathlib.Nat.{mul-le-mul}
 use native.Mathlib.Omega.{arith}
 use lib.Dec.{leb}
@@ -16,11 +16,8 @@ use Rattle.model.specs.Calls.{after, planTotals, planRows, greedyTotals}
 use Rattle.model.specs.Report.{programNodes, programHeight, programBudget, isSmall, reportVerdict, ReportCall}
 use Rattle.model.proofs.Reported.{report-passes}
 use Rattle.lent.proofs.Asked.{words-grow}
+use Rattle.program_report.specs.Memory.{programScratch}
 use Rattle.program_report.specs.declared.Report.{Report}
-
--- n × (h + 1) × (k + 1) + 4 × n at the limits
-abbrev pub programScratch : ℕ
-programScratch = programNodes * (programHeight + 1) * (programBudget + 1) + 4 * programNodes
 
 module _ (file : List ℕ) (small : isSmall file ≡ true) where
   pub limits : (countOf file ≤ programNodes) × (height (treeOf file) ≤ programHeight) × (budgetOf file ≤ programBudget)

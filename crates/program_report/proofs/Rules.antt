@@ -11,10 +11,9 @@ use borrow.Author.Tests.{lt-ltb, ltb-true}
 use Rattle.model.specs.Rules.{passed, _then_, fileVerdict, askProgram}
 use Rattle.model.specs.Calls.{answered, refused, answer}
 use Rattle.model.specs.Report.{firstLook, programNodes, programHeight, programBudget, isSmall, programVerdict}
-use Rattle.model.proofs.Verdicts.{ask-passed, then-passed}
+use Rattle.model.proofs.Verdicts.{ask-passed, then-passed, answered-passed, refused-broken}
 use Rattle.fields.specs.declared.Tree as code
 use Rattle.tree_file.specs.Checks.{sizesOf}
-use Rattle.lent.proofs.Asked.{answered-passed, refused-broken}
 
 -- a file that the program accepts
 pub program-accepted : (file : List ℕ) → programVerdict file ≡ passed → (fileVerdict file ≡ passed) × (isSmall file ≡ true)

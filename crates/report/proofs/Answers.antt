@@ -17,27 +17,16 @@ use Rattle.model.proofs.Reported.{report-meets-demand}
 use Rattle.fields.specs.declared.Tree as code
 use Rattle.tree_file.specs.Checks.{sizesOf}
 use Rattle.lent.specs.Lent.{lentVerdict}
-use Rattle.lent.proofs.Asked.{answered-passed, lent-accepted, refused-before-buffers, buffers-decide}
+use Rattle.lent.proofs.Asked.{lent-told, refused-before-buffers, buffers-decide}
 use Rattle.optimum.proofs.Answers.{plan-room, plan-long, totals-after, rows-after}
-use Rattle.greedy.specs.Run.{Granted, Ran}
+use Rattle.greedy.specs.Run.{Ran}
 use Rattle.greedy.proofs.Answers.{nodes-fit, greedy-granted}
-use Rattle.report.specs.Made.{Lent, Made}
+use Rattle.report.specs.Made.{ReportRoom, Made}
 
 -- ---- both answers
 
--- greedy's room is the same after the plan was made in the scratch
-pub granted-still : {file : List ℕ} {n k : ℕ} {scratch scratch′ greedys taken : List ℕ} → Granted file n k scratch greedys taken
-    → length scratch′ ≡ length scratch → Granted file n k scratch′ greedys taken
-granted-still g e =
-    record {
-      room = record { accepted = g .room .accepted; count = g .room .count; room = rw e (g .room .room) };
-      budget = g .budget;
-      totalsLong = g .totalsLong;
-      takenLong = g .takenLong;
-    }
-
 pub both-made : {file : List ℕ} {sizes : code.Tree} {scratch totals rows greedys taken mid scratch′ totals′ rows′ greedys′ taken′ : List ℕ}
-    → Lent file sizes scratch totals rows greedys taken → FrontOnly (scratchWords file) scratch mid
+    → ReportRoom file sizes scratch totals rows greedys taken → FrontOnly (scratchWords file) scratch mid
     → totals′ ≡ sets totals 0 (planTotals file) → rows′ ≡ sets rows 0 (planRows file)
     → Ran file (sizes .nodes) mid greedys taken scratch′ greedys′ taken′
     → Made file scratch totals rows greedys taken scratch′ totals′ rows′ greedys′ taken′
@@ -74,9 +63,6 @@ module _ (file scratch totals rows greedys taken : List ℕ) where
   report-refused e = refused-whole (refused-before-buffers file scratch (planBuffersLong file totals rows && greedyBuffersLong file greedys taken) e)
 
   module _ {sizes : code.Tree} (e : answered sizes ≡ answer (lentVerdict file (length scratch)) (sizesOf file)) where
-    told : (lentVerdict file (length scratch) ≡ passed) × (sizes ≡ sizesOf file)
-    told = answered-passed (lentVerdict file (length scratch)) (sizesOf file) e
-
     -- rule 14, as it is asked with the sizes found
     abbrev planFits : Bool
     planFits = leb (suc (sizes .budget)) (length totals) && leb (suc (sizes .budget) * sizes .budget) (length rows)
@@ -85,7 +71,7 @@ module _ (file scratch totals rows greedys taken : List ℕ) where
     greedyFits = leb (suc (sizes .budget)) (length greedys) && leb (sizes .budget) (length taken)
 
     long-is : {b : Bool} → (planFits && greedyFits) ≡ b → (planBuffersLong file totals rows && greedyBuffersLong file greedys taken) ≡ b
-    long-is h = rw (told .1) at h
+    long-is h = rw (lent-told file e .2) at h
 
     pub report-short : (planFits && greedyFits) ≡ false
         → ReportCall file scratch totals rows greedys taken (broken 14 0) scratch totals rows greedys taken
@@ -93,7 +79,7 @@ module _ (file scratch totals rows greedys taken : List ℕ) where
     report-short h = refused-whole (buffers-decide file scratch _ e (long-is h))
 
     module _ (h : (planFits && greedyFits) ≡ true) where
-      pub report-lent : Lent file sizes scratch totals rows greedys taken
+      pub report-lent : ReportRoom file sizes scratch totals rows greedys taken
       report-lent =
           let fit = both planFits greedyFits h in
           record {
@@ -108,7 +94,6 @@ module _ (file scratch totals rows greedys taken : List ℕ) where
           → ReportCall file scratch totals rows greedys taken passed scratch′ totals′ rows′ greedys′ taken′
       unfolding reportVerdict
       report-made m =
-          let accepted = lent-accepted file (length scratch) (told .0) .0 in
           record {
             verdict = buffers-decide file scratch _ e (long-is h);
             scratchAfter = (m .front .long, m .front .rest);
@@ -116,5 +101,5 @@ module _ (file scratch totals rows greedys taken : List ℕ) where
             rowsAfter = m .rowsAfter;
             greedysAfter = m .greedysAfter;
             takenAfter = m .takenAfter;
-            demandThree = λ _. rw (m .totalsAfter, m .rowsAfter, m .greedysAfter) (report-meets-demand file accepted totals rows greedys);
+            demandThree = λ _. rw (m .totalsAfter, m .rowsAfter, m .greedysAfter) (report-meets-demand file (lent-told file e .0) totals rows greedys);
           }

@@ -11,7 +11,7 @@ use Rattle.optimum.specs.Budgets.{Buffers}
 use Rattle.greedy.specs.Run.{Granted}
 
 -- an accepted file with its sizes, and room for both answers
-pub record Lent (file : List ℕ) (sizes : code.Tree) (scratch totals rows greedys taken : List ℕ) : Type 0 where
+pub record ReportRoom (file : List ℕ) (sizes : code.Tree) (scratch totals rows greedys taken : List ℕ) : Type 0 where
   pub forPlan : TableRoom file sizes scratch
   pub planLong : Buffers file totals rows
   pub forGreedy : Granted file (sizes .nodes) (sizes .budget) scratch greedys taken

@@ -6,7 +6,7 @@ ghost use lib.Dec.{leb};
 ghost use Rattle.model.specs.File.{mostBudget};
 ghost use Rattle.model.specs.Report.{ReportCall};
 ghost use Rattle.tree_file.specs.Checks.{verdictOf};
-ghost use Rattle.report.specs.Made.{Lent, Made};
+ghost use Rattle.report.specs.Made.{ReportRoom, Made};
 use tree_file::Checked;
 use tree_file::Ruling;
 
@@ -31,7 +31,7 @@ fn make_report(
     greedys: &mut [u64],
     taken: &mut [u16],
 )
-    requires { ⌜ Lent (now file) tree (now scratch) (now totals) (now rows) (now greedys) (now taken) ⌝ }
+    requires { ⌜ ReportRoom (now file) tree (now scratch) (now totals) (now rows) (now greedys) (now taken) ⌝ }
     ensures { λ _. ⌜ Made (now (file .entry)) (now (scratch .entry)) (now (totals .entry)) (now (rows .entry)) (now (greedys .entry)) (now (taken .entry)) (now (scratch .exit)) (now (totals .exit)) (now (rows .exit)) (now (greedys .exit)) (now (taken .exit)) ⌝ }
 {
     optimum::make_plan(file, tree, scratch, totals, rows);

@@ -1,4 +1,4 @@
-pub mod Rooms
-pub mod Words
-pub mod Lines
-pub mod Texts
+mod Rooms
+mod Words
+mod Lines
+mod Texts

@@ -6,7 +6,7 @@ use native.Mathlib.Omega.{arith}
 use lib.ListN.{length, getD}
 use Rattle.laws.proofs.Numbers.{row-before}
 use Rattle.model.specs.Report.{space, newline, decimal, line, setOfRow, refusedWord, refusalText}
-use Rattle.report_text.specs.Lines.{word, words, budgetLine, Reported}
+use Rattle.report_text.specs.Lines.{word, words, budgetLine, ReportBuffers}
 
 spaced-decimals : (xs : List ℕ) → flatMap (λ u. space ∷ u) (map decimal xs) ≡ words xs
 unfolding flatMap
@@ -28,5 +28,5 @@ pub refusal-pieces : (q i : ℕ) → refusalText q i ≡ refusedWord ++ word q +
 unfolding refusalText flatMap
 refusal-pieces q i = line-pieces refusedWord q i [] ∙ ap (λ l. l ++ (newline ∷ [])) (append-nil (refusedWord ++ word q ++ word i))
 
-pub row-there : {k b : ℕ} {totals rows greedys : List ℕ} → Reported k totals rows greedys → b ≤ k → b * k + k ≤ length rows
+pub row-there : {k b : ℕ} {totals rows greedys : List ℕ} → ReportBuffers k totals rows greedys → b ≤ k → b * k + k ≤ length rows
 row-there {k} {b} r h = omega (arith, r .rowsLong, row-before {i = b} {j = k + 1} k (omega arith))

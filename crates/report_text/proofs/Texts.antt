@@ -11,17 +11,17 @@ use Rattle.model.specs.File.{budgetOf}
 use Rattle.model.specs.Rules.{passed}
 use Rattle.model.specs.Calls.{answered, refused, answer, planTotals, planRows, greedyTotals}
 use Rattle.model.specs.Report.{reportText, firstLook, programVerdict, programText, refusalText}
+use Rattle.model.proofs.Verdicts.{answered-passed, refused-broken}
 use Rattle.model.proofs.Reported.{row-holds-plan, holds-plan-total, holds-greedy-total}
 use Rattle.model.proofs.Written.{written-there, length-plan-totals, length-plan-rows, length-greedy-totals}
 use Rattle.fields.specs.declared.Tree as code
 use Rattle.tree_file.specs.Checks.{sizesOf}
-use Rattle.lent.proofs.Asked.{answered-passed, refused-broken}
 use Rattle.program_report.specs.Memory.{reportOf}
 use Rattle.program_report.specs.declared.Report.{Report}
 use Rattle.program_report.proofs.Rules.{program-accepted, accepted-whole}
 use Rattle.program_report.proofs.Memory.{limits}
 use Rattle.text_bytes.proofs.Appended.{append-keeps-length, appended-text}
-use Rattle.report_text.specs.Lines.{budgetLine, AppendedWithin, Reported}
+use Rattle.report_text.specs.Lines.{budgetLine, AppendedWithin, ReportBuffers}
 use Rattle.report_text.specs.Texts.{Prints}
 use Rattle.report_text.specs.declared.Text.{Text}
 
@@ -41,7 +41,7 @@ appended-prints a h =
 module _ (file : List ℕ) where
   -- the program's memory holds a report of its budget
   pub memory-reported : programVerdict file ≡ passed → {k : ℕ} {r : Report} → k ≡ budgetOf file → r ≡ reportOf file
-      → Reported k (r .totals) (r .rows) (r .greedys)
+      → ReportBuffers k (r .totals) (r .rows) (r .greedys)
   memory-reported ok budget held =
       let more = add-one (budgetOf file) in
       rw (budget, held)

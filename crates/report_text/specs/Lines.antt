@@ -54,7 +54,7 @@ pub record AppendedWithin (room at : ℕ) (bytes old new : List ℕ) (end : ℕ)
 -- ---- the buffers
 
 -- what a report of budget k, within the program's limit, holds: k + 1 totals, k + 1 rows of k numbers, k + 1 greedy totals
-pub record Reported (k : ℕ) (totals rows greedys : List ℕ) : Type 0 where
+pub record ReportBuffers (k : ℕ) (totals rows greedys : List ℕ) : Type 0 where
   pub small : k ≤ programBudget
   pub totalsLong : k + 1 ≤ length totals
   pub rowsLong : (k + 1) * k ≤ length rows

@@ -8,11 +8,14 @@ ghost use Rattle.laws.specs.Lists.{range, part, those};
 ghost use Rattle.model.specs.File.{budgetOf};
 ghost use Rattle.model.specs.Rules.{passed};
 ghost use Rattle.model.specs.Report.{decimal, reportText, refusalText, programVerdict, programText};
-ghost use Rattle.report_text.specs.Lines.{word, words, isNode, budgetLine, numberRoom, wordRoom, lineRoom, linesRoom, refusalRoom, AppendedWithin, Reported};
+ghost use Rattle.report_text.specs.Lines.{word, words, isNode, budgetLine, numberRoom, wordRoom, lineRoom, linesRoom, refusalRoom, AppendedWithin, ReportBuffers};
 ghost use Rattle.report_text.specs.Texts.{Prints};
 
-// The bytes of a line at the program's limit: a budget, two totals and the nodes, 20 digits each and a space or the newline.
-const LINE: usize = (program_report::BUDGET + 3) * 21;
+// The bytes of a number with its space: 20 digits are enough for 64 bits.
+const WORD: usize = 21;
+
+// The bytes of a line at the program's limit: a budget, two totals and the nodes; the newline stands for the budget's space.
+const LINE: usize = (program_report::BUDGET + 3) * WORD;
 
 // The bytes of all lines.
 const ROOM: usize = (program_report::BUDGET + 1) * LINE;
@@ -83,7 +86,7 @@ fn put_line(
     rows: &[u16],
     greedys: &[u64],
 ) -> usize
-    requires { ⌜ Reported k (now totals) (now rows) (now greedys) ⌝ }
+    requires { ⌜ ReportBuffers k (now totals) (now rows) (now greedys) ⌝ }
     requires { ⌜ (b ≤ k) × (at + lineRoom ≤ length (now text)) ⌝ }
     ensures { λ r. ⌜ AppendedWithin lineRoom at (budgetLine k (now (totals .entry)) (now (rows .entry)) (now (greedys .entry)) b) (now (text .entry)) (now (text .exit)) r ⌝ }
 {
@@ -96,7 +99,7 @@ fn put_line(
 
 // Appends the line of every budget from 0 to k, at the start of the text.
 fn put_lines(text: &mut [u8], k: usize, totals: &[u64], rows: &[u16], greedys: &[u64]) -> usize
-    requires { ⌜ Reported k (now totals) (now rows) (now greedys) ⌝ }
+    requires { ⌜ ReportBuffers k (now totals) (now rows) (now greedys) ⌝ }
     requires { ⌜ linesRoom ≤ length (now text) ⌝ }
     ensures { λ r. ⌜ AppendedWithin linesRoom 0 (flatMap (budgetLine k (now (totals .entry)) (now (rows .entry)) (now (greedys .entry))) (range 0 (suc k))) (now (text .entry)) (now (text .exit)) r ⌝ }
 {

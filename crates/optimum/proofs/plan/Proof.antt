@@ -3,7 +3,8 @@ use mathlib.Core.Path.{sym, ap, _∙_}
 use borrow.Author.Needs.{needs}
 use Rattle.laws.proofs.Bools.{held, failed}
 use Rattle.tree_file.specs.Checks.{answerOf}
-use Rattle.optimum.proofs.Answers.{plan-refused, plan-room, plan-budget-fits, plan-short, plan-long, plan-written}
+use Rattle.lent.proofs.Asked.{lent-sizes}
+use Rattle.optimum.proofs.Answers.{plan-refused, plan-room, plan-short, plan-long, plan-written}
 use Rattle.optimum.proofs.plan.Statement.{statement}
 use Rattle.optimum.proofs.plan.Tie as tie
 
@@ -14,7 +15,7 @@ enum-known-checked : tie.Need-enum-known-checked
 enum-known-checked c = search needs
 
 buffers-long-requires : tie.Need-buffers-long-requires
-buffers-long-requires c κs = let a = c .before .before .before .before .before .before .before .before .args in plan-budget-fits (a .file .now) (a .scratch .now) (ap answerOf (sym (c .before .checked .given .1)) ∙ c .before .before .before .check .ensures)
+buffers-long-requires c κs = lent-sizes _ _ (ap answerOf (sym (c .before .checked .given .1)) ∙ c .before .before .before .check .ensures) .budget
 
 returns : tie.Need-returns
 returns c = plan-short _ _ _ _ (ap answerOf (sym (c .before .before .before .checked .given .1)) ∙ c .before .before .before .before .before .check .ensures) (failed (c .before .buffers-long .ensures) (c .if1 .taken))

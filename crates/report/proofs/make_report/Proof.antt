@@ -1,6 +1,7 @@
 -- `make_report`: the plan, then the greedy rule in the same scratch.
 use borrow.Author.Needs.{needs}
-use Rattle.report.proofs.Answers.{granted-still, both-made}
+use Rattle.greedy.proofs.Answers.{granted-still}
+use Rattle.report.proofs.Answers.{both-made}
 use Rattle.report.proofs.make_report.Statement.{statement}
 use Rattle.report.proofs.make_report.Tie as tie
 
