@@ -9,8 +9,9 @@ use lib.Dec.{leb}
 use lib.ListN.{length}
 use borrow.Author.Tests.{leb-true, le-leb, lt-leb}
 use Rattle.model.specs.File.{treeOf, demandOf, mostNodes, mostBudget, mostDepth}
-use Rattle.model.specs.Rules.{Verdict, passed, broken, ask, _then_, fileVerdict, scratchWords, askScratch, askBuffers}
+use Rattle.model.specs.Rules.{Verdict, passed, broken, ask, _then_, fileVerdict, accepted, scratchWords, askScratch, askBuffers}
 use Rattle.model.specs.Calls.{answered, refused, answer}
+use Rattle.model.specs.Hosts.{wordsAsked}
 use Rattle.model.proofs.Verdicts.{ask-passed, then-passed, answered-passed, refused-broken}
 use Rattle.model.proofs.Accepted.{accepted-header, accepted-sound}
 use Rattle.model.proofs.Bounds.{height-bound}
@@ -48,27 +49,35 @@ module _ (file : List ℕ) where
   pub answered-sizes : {sizes : code.Tree} → answered sizes ≡ answer (fileVerdict file) (sizesOf file) → SizesHold sizes
   answered-sizes e = let told = answered-passed (fileVerdict file) (sizesOf file) e in rw (told .1) (accepted-sizes (told .0))
 
-  module _ (sizes : code.Tree) (words asked : ℕ) (e : answered sizes ≡ answer (fileVerdict file) (sizesOf file))
+  module _ (sizes : code.Tree) (asked : ℕ) (e : answered sizes ≡ answer (fileVerdict file) (sizesOf file))
       (a : asked ≡ sizes .nodes * (sizes .height + 1) * (sizes .budget + 1) + 4 * sizes .nodes) where
     asked-words : asked ≡ scratchWords file
     unfolding scratchWords
     asked-words = rw (answered-passed (fileVerdict file) (sizesOf file) e .1) at a
 
-    pub scratch-held : asked ≤ words → answered sizes ≡ answer (lentVerdict file words) (sizesOf file)
+    pub words-of-accepted : asked ≡ wordsAsked file
+    unfolding wordsAsked accepted
+    words-of-accepted = rw (answered-passed (fileVerdict file) (sizesOf file) e .0) asked-words
+
+    pub scratch-held : (words : ℕ) → asked ≤ words → answered sizes ≡ answer (lentVerdict file words) (sizesOf file)
     unfolding lentVerdict
-    scratch-held h =
+    scratch-held words h =
         let told = answered-passed (fileVerdict file) (sizesOf file) e in
         rw (told .0, le-leb (scratchWords file) words (omega (arith, asked-words)), told .1)
 
-    pub scratch-short : words < asked → refused 13 0 ≡ answer (lentVerdict file words) (sizesOf file)
+    pub scratch-short : (words : ℕ) → words < asked → refused 13 0 ≡ answer (lentVerdict file words) (sizesOf file)
     unfolding lentVerdict
-    scratch-short h =
+    scratch-short words h =
         rw (answered-passed (fileVerdict file) (sizesOf file) e .0, lt-leb (scratchWords file) words (omega (arith, asked-words)))
 
   pub scratch-unasked : (words q i : ℕ) → refused q i ≡ answer (fileVerdict file) (sizesOf file)
       → refused q i ≡ answer (lentVerdict file words) (sizesOf file)
   unfolding lentVerdict
   scratch-unasked words q i e = rw (refused-broken (fileVerdict file) (sizesOf file) e)
+
+  pub words-of-refused : (q i : ℕ) → refused q i ≡ answer (fileVerdict file) (sizesOf file) → 0 ≡ wordsAsked file
+  unfolding wordsAsked accepted
+  words-of-refused q i e = rw (refused-broken (fileVerdict file) (sizesOf file) e)
 
   lent-accepted : (words : ℕ) → lentVerdict file words ≡ passed → (fileVerdict file ≡ passed) × (scratchWords file ≤ words)
   unfolding lentVerdict

@@ -3,6 +3,7 @@ use tree_file::Checked;
 ghost use mathlib.Core.Path.{_≡_};
 ghost use Prim.Native.Nat.{_+_, _*_};
 ghost use Rattle.model.specs.Calls.{answer};
+ghost use Rattle.model.specs.Hosts.{wordsAsked};
 ghost use Rattle.tree_file.specs.Checks.{answerOf, sizesOf};
 ghost use Rattle.lent.specs.Lent.{SizesHold, lentVerdict};
 
@@ -27,5 +28,16 @@ pub fn check(file: &[u8], words: usize) -> Checked
             Checked::Accepted(tree)
         }
         Checked::Refused(q, record) => Checked::Refused(q, record),
+    }
+}
+
+// The words that rule 13 asks of an accepted file, 0 for a refused one.
+pub fn words_asked(file: &[u8]) -> usize
+    ensures { λ r. ⌜ r ≡ wordsAsked (now (file .entry)) ⌝ }
+{
+    let checked = tree_file::check(file);
+    match checked {
+        Checked::Accepted(tree) => scratch_words(tree),
+        Checked::Refused(_, _) => 0,
     }
 }

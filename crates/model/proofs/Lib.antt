@@ -18,4 +18,5 @@ pub mod GreedyRuns
 pub mod Written
 pub mod Reported
 pub mod Decimals
+pub mod Codes
 pub mod Laws

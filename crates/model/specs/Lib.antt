@@ -7,4 +7,5 @@ pub mod Plan
 pub mod Greedy
 pub mod Calls
 pub mod Report
+pub mod Hosts
 pub mod Cases

@@ -16,13 +16,13 @@ scratch-words-requires : tie.Need-scratch-words-requires
 scratch-words-requires c κs = answered-sizes _ (ap answerOf (sym (c .before .checked .given .1)) ∙ c .before .before .before .check .ensures)
 
 returns : tie.Need-returns
-returns c = scratch-short _ _ _ _ (ap answerOf (sym (c .before .before .before .checked .given .1)) ∙ c .before .before .before .before .before .check .ensures) (c .before .scratch-words .ensures) (c .if1 .taken)
+returns c = scratch-short _ _ _ (ap answerOf (sym (c .before .before .before .checked .given .1)) ∙ c .before .before .before .before .before .check .ensures) (c .before .scratch-words .ensures) _ (c .if1 .taken)
 
 enum-known-checked-2 : tie.Need-enum-known-checked-2
 enum-known-checked-2 c = search needs
 
 returns-2 : tie.Need-returns-2
-returns-2 c = scratch-held _ _ _ _ (ap answerOf (sym (c .before .before .before .checked .given .1)) ∙ c .before .before .before .before .before .check .ensures) (c .before .scratch-words .ensures) (c .if1 .left)
+returns-2 c = scratch-held _ _ _ (ap answerOf (sym (c .before .before .before .checked .given .1)) ∙ c .before .before .before .before .before .check .ensures) (c .before .scratch-words .ensures) _ (c .if1 .left)
 
 returns-3 : tie.Need-returns-3
 returns-3 c = scratch-unasked _ _ _ _ (ap answerOf (sym (c .before .checked2 .given .1)) ∙ c .before .before .before .check .ensures)

@@ -1,0 +1,2 @@
+mod Bills
+mod Named

@@ -1,0 +1,133 @@
+// The calls for hosts in C, as include/kterc.h declares them: each slice is a pointer and a length.
+ghost use mathlib.Core.Path.{_≡_};
+ghost use Rattle.model.specs.Rules.{broken, _then_, fileVerdict, askSet};
+ghost use Rattle.model.specs.Calls.{checkNumber, planVerdict, PlanCall, greedyVerdict, GreedyCall};
+ghost use Rattle.model.specs.Report.{reportVerdict, ReportCall};
+ghost use Rattle.model.specs.Hosts.{codeOf, wordsAsked, hostBillVerdict, HostBillCall};
+ghost use Rattle.tree_file.specs.Checks.{verdictOf};
+use placement::Billed;
+use tree_file::Ruling;
+
+// A ruling as one number: record × 256 + number, 0 where no rule is broken.
+fn code_of(ruling: Ruling) -> u32
+    ensures { λ r. ⌜ r ≡ codeOf (verdictOf ruling) ⌝ }
+{
+    match ruling {
+        Ruling::Passed => 0,
+        Ruling::Broken(q, record) => record as u32 * 256 + q as u32,
+    }
+}
+
+// 0, or the number of the first broken rule among 1 to 11.
+#[no_mangle]
+pub extern "C" fn kterc_check(file: &[u8]) -> u32
+    ensures { λ r. ⌜ r ≡ checkNumber (now (file .entry)) ⌝ }
+{
+    tree_file::kterc_check(file)
+}
+
+// The words of scratch that rule 13 asks of an accepted file, 0 for a refused one.
+#[no_mangle]
+pub extern "C" fn kterc_scratch_words(file: &[u8]) -> usize
+    ensures { λ r. ⌜ r ≡ wordsAsked (now (file .entry)) ⌝ }
+{
+    lent::words_asked(file)
+}
+
+// The answer of a bill with no room for its total: rules 1 to 12, then rule 14, which is broken.
+fn no_room(file: &[u8], set: &[u16]) -> Ruling
+    ensures { λ r. ⌜ verdictOf r ≡ (fileVerdict (now (file .entry)) then askSet (now (file .entry)) (now (set .entry)) then broken 14 0) ⌝ }
+{
+    let ruling = tree_file::file_ruling(file);
+    match ruling {
+        Ruling::Passed => {
+            if !placement::is_set(set, fields::count_of(file)) {
+                return Ruling::Broken(12, 0);
+            }
+            Ruling::Broken(14, 0)
+        }
+        Ruling::Broken(q, record) => Ruling::Broken(q, record),
+    }
+}
+
+// The bill, with its total as a buffer.
+fn bill(
+    file: &[u8],
+    set: &[u16],
+    total: &mut [u64],
+    serving: &mut [u16],
+    loads: &mut [u64],
+) -> Ruling
+    ensures { λ r. ⌜ HostBillCall (now (file .entry)) (now (set .entry)) (now (total .entry)) (now (serving .entry)) (now (loads .entry)) (verdictOf r) (now (total .exit)) (now (serving .exit)) (now (loads .exit)) ⌝ }
+{
+    if total.len() < 1 {
+        return no_room(file, set);
+    }
+    let billed = placement::bill(file, set, serving, loads);
+    match billed {
+        Billed::Total(sum) => {
+            total[0] = sum.0;
+            Ruling::Passed
+        }
+        Billed::Refused(q, record) => Ruling::Broken(q, record),
+    }
+}
+
+// The bill of a set: its total in the first entry of `total`, then the serving node and the load above each node.
+#[no_mangle]
+pub extern "C" fn kterc_bill(
+    file: &[u8],
+    set: &[u16],
+    total: &mut [u64],
+    serving: &mut [u16],
+    loads: &mut [u64],
+) -> u32
+    ensures { λ r. ⌜ r ≡ codeOf (hostBillVerdict (now (file .entry)) (now (set .entry)) (now (total .entry)) (now (serving .entry)) (now (loads .entry))) ⌝ }
+    ensures { λ _. ⌜ HostBillCall (now (file .entry)) (now (set .entry)) (now (total .entry)) (now (serving .entry)) (now (loads .entry)) (hostBillVerdict (now (file .entry)) (now (set .entry)) (now (total .entry)) (now (serving .entry)) (now (loads .entry))) (now (total .exit)) (now (serving .exit)) (now (loads .exit)) ⌝ }
+{
+    code_of(bill(file, set, total, serving, loads))
+}
+
+// For each budget from 0 to k the least total and the nodes of the plan.
+#[no_mangle]
+pub extern "C" fn kterc_plan(
+    file: &[u8],
+    scratch: &mut [u64],
+    totals: &mut [u64],
+    rows: &mut [u16],
+) -> u32
+    ensures { λ r. ⌜ r ≡ codeOf (planVerdict (now (file .entry)) (now (scratch .entry)) (now (totals .entry)) (now (rows .entry))) ⌝ }
+    ensures { λ _. ⌜ PlanCall (now (file .entry)) (now (scratch .entry)) (now (totals .entry)) (now (rows .entry)) (planVerdict (now (file .entry)) (now (scratch .entry)) (now (totals .entry)) (now (rows .entry))) (now (scratch .exit)) (now (totals .exit)) (now (rows .exit)) ⌝ }
+{
+    code_of(optimum::plan(file, scratch, totals, rows))
+}
+
+// For each budget from 0 to k the total that the greedy rule reaches, and the nodes in the order taken.
+#[no_mangle]
+pub extern "C" fn kterc_greedy(
+    file: &[u8],
+    scratch: &mut [u64],
+    totals: &mut [u64],
+    nodes: &mut [u16],
+) -> u32
+    ensures { λ r. ⌜ r ≡ codeOf (greedyVerdict (now (file .entry)) (now (scratch .entry)) (now (totals .entry)) (now (nodes .entry))) ⌝ }
+    ensures { λ _. ⌜ GreedyCall (now (file .entry)) (now (scratch .entry)) (now (totals .entry)) (now (nodes .entry)) (greedyVerdict (now (file .entry)) (now (scratch .entry)) (now (totals .entry)) (now (nodes .entry))) (now (scratch .exit)) (now (totals .exit)) (now (nodes .exit)) ⌝ }
+{
+    code_of(greedy::greedy(file, scratch, totals, nodes))
+}
+
+// Both answers together, with demand 3.
+#[no_mangle]
+pub extern "C" fn kterc_report(
+    file: &[u8],
+    scratch: &mut [u64],
+    totals: &mut [u64],
+    rows: &mut [u16],
+    greedys: &mut [u64],
+    taken: &mut [u16],
+) -> u32
+    ensures { λ r. ⌜ r ≡ codeOf (reportVerdict (now (file .entry)) (now (scratch .entry)) (now (totals .entry)) (now (rows .entry)) (now (greedys .entry)) (now (taken .entry))) ⌝ }
+    ensures { λ _. ⌜ ReportCall (now (file .entry)) (now (scratch .entry)) (now (totals .entry)) (now (rows .entry)) (now (greedys .entry)) (now (taken .entry)) (reportVerdict (now (file .entry)) (now (scratch .entry)) (now (totals .entry)) (now (rows .entry)) (now (greedys .entry)) (now (taken .entry))) (now (scratch .exit)) (now (totals .exit)) (now (rows .exit)) (now (greedys .exit)) (now (taken .exit)) ⌝ }
+{
+    code_of(report::report(file, scratch, totals, rows, greedys, taken))
+}

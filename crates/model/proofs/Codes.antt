@@ -1,0 +1,70 @@
+-- A host reads the whole verdict from its code: 0 just where no rule is broken, else the number and the record.
+use mathlib.Core.Path.{_≡_, refl, sym}
+use mathlib.Core.Bool.{Bool, true, false, _&&_}
+use mathlib.Core.List.{List}
+use Prim.Native.Nat.{ℕ, zero, suc, _/_, _%_, _<_}
+use native.Mathlib.Omega.{arith}
+use lib.Dec.{ltb}
+use borrow.Author.Tests.{ltb-true}
+use Rattle.laws.proofs.Bools.{both}
+use Rattle.model.specs.File.{Tree, Demand, treeOf, demandOf, countOf}
+use Rattle.model.specs.Rules.{Verdict, passed, broken, ask, _then_, recordVerdict, recordsVerdict, fileVerdict}
+use Rattle.model.specs.Calls.{planVerdict, greedyVerdict}
+use Rattle.model.specs.Report.{reportVerdict}
+use Rattle.model.specs.Hosts.{codeOf, hostBillVerdict}
+use Rattle.model.proofs.Verdicts.{broken≢passed}
+
+pub code-reads : (q i : ℕ) → q < 256 → (codeOf (broken q i) % 256 ≡ q) × (codeOf (broken q i) / 256 ≡ i)
+code-reads q i h = (omega arith, omega arith)
+
+-- ---- the number of a broken rule is one byte, and not 0
+
+abbrev pub isByte : ℕ → Bool
+isByte q = ltb 0 q && ltb q 256
+
+pub record Numbered (v : Verdict) : Type 0 where
+  pub byte : (q i : ℕ) → v ≡ broken q i → isByte q ≡ true
+
+pub code-none : (v : Verdict) → Numbered v → codeOf v ≡ 0 → v ≡ passed
+code-none passed h e = refl
+code-none (broken q i) h e = absurd (omega (arith, ltb-true 0 q (both (ltb 0 q) (ltb q 256) (h .byte q i refl) .0)))
+
+both-numbered : (a b : Verdict) → Numbered a → Numbered b → Numbered (a then b)
+both-numbered passed b h g = g
+both-numbered (broken q i) b h g = h
+
+ask-numbered : (q i : ℕ) (b : Bool) → isByte q ≡ true → Numbered (ask q i b)
+ask-numbered q i true h = record { byte = λ p j e. absurd (broken≢passed (sym e)) }
+ask-numbered q i false h = record { byte = λ p j e. cc }
+
+record-numbered : (t : Tree) (d : Demand) (i : ℕ) → Numbered (recordVerdict t d i)
+unfolding recordVerdict
+record-numbered t d i = search (both-numbered, ask-numbered)
+
+records-numbered : (t : Tree) (d : Demand) (n : ℕ) → Numbered (recordsVerdict t d n)
+unfolding recordsVerdict
+records-numbered t d zero = record { byte = λ p j e. absurd (broken≢passed (sym e)) }
+records-numbered t d (suc i) = both-numbered _ _ (records-numbered t d i) (record-numbered t d i)
+
+file-numbered : (file : List ℕ) → Numbered (fileVerdict file)
+unfolding fileVerdict
+file-numbered file = search (both-numbered, ask-numbered, records-numbered) depth 8
+
+-- ---- the calls
+
+module _ (file : List ℕ) where
+  pub bill-numbered : (k totals servings loads : List ℕ) → Numbered (hostBillVerdict file k totals servings loads)
+  unfolding hostBillVerdict
+  bill-numbered k totals servings loads = search (both-numbered, ask-numbered, file-numbered)
+
+  pub plan-numbered : (scratch totals rows : List ℕ) → Numbered (planVerdict file scratch totals rows)
+  unfolding planVerdict
+  plan-numbered scratch totals rows = search (both-numbered, ask-numbered, file-numbered)
+
+  pub greedy-numbered : (scratch totals taken : List ℕ) → Numbered (greedyVerdict file scratch totals taken)
+  unfolding greedyVerdict
+  greedy-numbered scratch totals taken = search (both-numbered, ask-numbered, file-numbered)
+
+  pub report-numbered : (scratch totals rows greedys taken : List ℕ) → Numbered (reportVerdict file scratch totals rows greedys taken)
+  unfolding reportVerdict
+  report-numbered scratch totals rows greedys taken = search (both-numbered, ask-numbered, file-numbered)

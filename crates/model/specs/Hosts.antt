@@ -1,0 +1,31 @@
+-- Document 01's calls as hosts in C make them: an answer is one number, and the bill's total is written to a buffer.
+use mathlib.Core.Path.{_≡_}
+use mathlib.Core.Bool.{cond, _&&_}
+use mathlib.Core.List.{List, [], _∷_}
+use Prim.Native.Nat.{ℕ, _+_, _*_}
+use Rattle.model.specs.File.{treeOf, demandOf}
+use Rattle.model.specs.Rules.{Verdict, passed, broken, _then_, fileVerdict, accepted, askSet, scratchWords, longEnough, askBuffers}
+use Rattle.model.specs.Bill.{total}
+use Rattle.model.specs.Calls.{after, billBuffersLong, servingNodes, linkLoads}
+
+-- record × 256 + number, and 0 where every question has its yes
+abbrev pub codeOf : Verdict → ℕ
+codeOf passed = 0
+codeOf (broken q i) = i * 256 + q
+
+-- the words of scratch that question 13 asks of an accepted file, 0 for a refused one
+unfoldable pub wordsAsked : List ℕ → ℕ
+wordsAsked file = cond (accepted file) (scratchWords file) 0
+
+-- ---- the bill: its total goes to a buffer of one entry, which joins question 14
+
+unfoldable pub hostBillVerdict : List ℕ → List ℕ → List ℕ → List ℕ → List ℕ → Verdict
+hostBillVerdict file set totals servings loads =
+    fileVerdict file then askSet file set then askBuffers (longEnough 1 totals && billBuffersLong file servings loads)
+
+-- what the bill call of a host owes for all arguments
+pub record HostBillCall (file set totals servings loads : List ℕ) (v : Verdict) (totals′ servings′ loads′ : List ℕ) : Type 0 where
+  pub verdict : v ≡ hostBillVerdict file set totals servings loads
+  pub totalsAfter : totals′ ≡ after v (total (treeOf file) (demandOf file) set ∷ []) totals
+  pub servingsAfter : servings′ ≡ after v (servingNodes file set) servings
+  pub loadsAfter : loads′ ≡ after v (linkLoads file set) loads
