@@ -1,0 +1,312 @@
+#include "reference.h"
+
+#include <string.h>
+
+#ifndef PLANNER
+#define PLANNER planner
+#endif
+
+#define NONE ((uint64_t)1 << 62)
+
+static inline int min(int a, int b) { return a < b ? a : b; }
+
+/* ---- the file */
+
+static uint32_t number(const uint8_t *p, int width)
+{
+    uint32_t x = 0;
+    while (width--)
+        x = x << 8 | *p++;
+    return x;
+}
+
+static uint32_t read_record(const uint8_t *r, int i, struct tree *t)
+{
+    int parent = number(r, 2), length = number(r + 2, 2), hit = number(r + 8, 2), depth = 0;
+    uint32_t flow = number(r + 4, 4);
+    if (i == 0 && parent) return 7;
+    if (i > 0) {
+        int v = i - 1;
+        while (v > parent) /* ancestors have smaller numbers */
+            v = t->parent[v];
+        if (v != parent) return 7;
+        depth = t->depth[parent] + 1;
+    }
+    if (depth > DEPTH) return 8;
+    if (length > (i ? LENGTH : 0)) return 9;
+    if (flow > FLOW) return 10;
+    if (hit > HIT) return 11;
+    t->parent[i] = parent;
+    t->depth[i] = depth;
+    t->length[i] = length;
+    t->dist[i] = i ? t->dist[parent] + length : 0;
+    t->full[i] = 1000 * (uint64_t)flow;
+    t->cachable[i] = (uint64_t)hit * flow;
+    if (depth > t->h) t->h = depth;
+    return 0;
+}
+
+static uint32_t read_tree(const uint8_t *file, size_t length, struct tree *t)
+{
+    if (length < HEADER) return 1;
+    if (memcmp(file, "KTR", 3)) return 2;
+    if (number(file + 3, 2) != 1) return 3;
+    int n = number(file + 5, 2), k = number(file + 7, 2);
+    if (n < 1 || n > NODES) return 4;
+    if (k > BUDGET) return 5;
+    if (length != HEADER + RECORD * (size_t)n) return 6;
+    t->n = n, t->k = k, t->h = 0;
+    for (int i = 0; i < n; i++) {
+        uint32_t rule = read_record(file + HEADER + RECORD * i, i, t);
+        if (rule) return i * 256 + rule;
+    }
+    return 0;
+}
+
+/* First children, next siblings, nodes at or below each node, and nodes of the row that begins with it. */
+static void link_rows(struct tree *t)
+{
+    for (int v = 0; v < t->n; v++)
+        t->first[v] = t->next[v] = 0, t->size[v] = 1;
+    for (int v = t->n - 1; v > 0; v--) {
+        int p = t->parent[v];
+        t->next[v] = t->first[p];
+        t->first[p] = v;
+        t->size[p] += t->size[v];
+        t->row[v] = t->size[v] + (t->next[v] ? t->row[t->next[v]] : 0);
+    }
+}
+
+/* ---- the table: the least of the row that begins with v, with exactly m caches, its nearest cache above at depth a */
+
+static const uint64_t no_row[BUDGET + 1] = { 0,    NONE, NONE, NONE, NONE, NONE, NONE, NONE, NONE, NONE, NONE,
+                                             NONE, NONE, NONE, NONE, NONE, NONE, NONE, NONE, NONE, NONE, NONE,
+                                             NONE, NONE, NONE, NONE, NONE, NONE, NONE, NONE, NONE, NONE, NONE };
+
+static inline const uint64_t *line(const struct tree *t, const uint64_t *table, int v, int a)
+{
+    return v ? table + ((size_t)v * (t->h + 1) + a) * (t->k + 1) : no_row;
+}
+
+/* A node's own line from those of its children, and the row's from it and that of the later siblings. */
+struct counts { int below, top, later, all; };
+
+static inline void join_splits(int k, struct counts c, const uint64_t *node, const uint64_t *rest, uint64_t *out)
+{
+    for (int m = 0; m <= c.all; m++) {
+        int from = m > c.later ? m - c.later : 0, to = min(m, c.top);
+        uint64_t best = NONE;
+        for (int here = from; here <= to; here++) {
+            uint64_t x = node[here] + rest[m - here];
+            if (x < best) best = x;
+        }
+        out[m] = best;
+    }
+    for (int m = c.all + 1; m <= k; m++)
+        out[m] = NONE;
+}
+
+static inline void join_runs(int k, struct counts c, const uint64_t *node, const uint64_t *rest, uint64_t *restrict out)
+{
+    const uint64_t *p = node, *q = rest; /* p the shorter */
+    int lp = c.top, lq = c.later;
+    if (lp > lq) p = rest, q = node, lp = c.later, lq = c.top;
+    for (int j = 0; j <= lq; j++)
+        out[j] = p[0] + q[j];
+    for (int j = lq + 1; j <= k; j++)
+        out[j] = NONE;
+    for (int i = 1; i <= lp; i++) {
+        int end = min(lq, k - i);
+        uint64_t x = p[i];
+        for (int j = 0; j <= end; j++) {
+            uint64_t sum = x + q[j], old = out[i + j];
+            out[i + j] = sum < old ? sum : old;
+        }
+    }
+}
+
+static inline void fill_node(const struct tree *t, uint64_t *table, int v, enum fill fill)
+{
+    int k = t->k, next = t->next[v], first = t->first[v], serving[DEPTH + 1];
+    for (int u = v, a = t->depth[v]; a >= 0; a--, u = t->parent[u])
+        serving[a] = u;
+    struct counts c = { min(k, t->size[v] - 1), min(k, t->size[v]), next ? min(k, t->row[next]) : 0, min(k, t->row[v]) };
+    const uint64_t *under = line(t, table, first, t->depth[v]);
+    uint64_t base = t->full[v] * t->dist[v], cached = base - t->cachable[v] * t->dist[v];
+    uint64_t with[BUDGET + 1], node[BUDGET + 1];
+    for (int m = 1; m <= c.top; m++)
+        with[m] = cached + under[m - 1];
+    for (int a = 0; a < t->depth[v]; a++) {
+        const uint64_t *spare = line(t, table, first, a), *rest = line(t, table, next, a);
+        uint64_t *out = (uint64_t *)line(t, table, v, a), plain = base - t->cachable[v] * t->dist[serving[a]];
+        node[0] = plain + spare[0];
+        for (int m = 1; m <= c.below; m++) {
+            uint64_t x = plain + spare[m];
+            node[m] = x < with[m] ? x : with[m];
+        }
+        if (c.top > c.below) node[c.top] = with[c.top];
+        if (fill == RUNS) join_runs(k, c, node, rest, out);
+        else join_splits(k, c, node, rest, out);
+    }
+}
+
+/* ---- the walk: the first set in the order of ties, ascending */
+
+static inline uint64_t capped(uint64_t pays, uint64_t children) { return children >= NONE ? NONE : pays + children; }
+
+static uint16_t *walk(const struct tree *t, const uint64_t *table, int v, int up, int m, uint16_t *out)
+{
+    for (; v && m; v = t->next[v]) {
+        int a = t->depth[up], here = min(m, t->size[v]), member = 0;
+        uint64_t base = t->full[v] * t->dist[v], least = line(t, table, v, a)[m];
+        uint64_t plain = base - t->cachable[v] * t->dist[up], cached = base - t->cachable[v] * t->dist[v];
+        const uint64_t *spare = line(t, table, t->first[v], a), *under = line(t, table, t->first[v], t->depth[v]);
+        const uint64_t *rest = line(t, table, t->next[v], a);
+        for (; here > 0; here--) {
+            uint64_t without = capped(plain, spare[here]), with = capped(cached, under[here - 1]);
+            member = with <= without;
+            if ((member ? with : without) + rest[m - here] == least) break;
+        }
+        if (here && member) {
+            *out++ = v;
+            out = walk(t, table, t->first[v], v, here - 1, out);
+        } else if (here) {
+            out = walk(t, table, t->first[v], up, here, out);
+        }
+        m -= here;
+    }
+    return out;
+}
+
+static void make_plan(struct tree *t, uint64_t *scratch, enum fill fill, struct plan *p)
+{
+    link_rows(t);
+    if (fill == RUNS)
+        for (int v = t->n - 1; v > 0; v--) fill_node(t, scratch, v, RUNS);
+    else
+        for (int v = t->n - 1; v > 0; v--) fill_node(t, scratch, v, SPLITS);
+    const uint64_t *exact = line(t, scratch, t->first[0], 0);
+    int best = 0;
+    for (int b = 0; b <= t->k; b++) {
+        if (b == 0 || exact[b] < exact[best]) {
+            best = b;
+            uint16_t *end = walk(t, scratch, t->first[0], 0, b, p->row[b]);
+            memset(end, 0, (p->row[b] + BUDGET - end) * sizeof *end);
+        } else {
+            memcpy(p->row[b], p->row[b - 1], sizeof p->row[b]);
+        }
+        p->total[b] = exact[best];
+    }
+}
+
+/* ---- the greedy rule */
+
+static void make_greedy(const struct tree *t, struct greedy *g)
+{
+    uint64_t reach[NODES], above[NODES], total = 0;
+    char taken[NODES] = { 0 };
+    int n = t->n, done = 0;
+    for (int v = 0; v < n; v++)
+        total += t->full[v] * t->dist[v];
+    g->total[0] = total;
+    memset(g->node, 0, sizeof g->node);
+    for (int step = 0; step < t->k; step++) {
+        uint64_t most = 0;
+        int node = 0;
+        if (!done) {
+            memcpy(reach, t->cachable, n * sizeof *reach);
+            above[0] = 0;
+            for (int v = 1; v < n; v++) {
+                int p = t->parent[v];
+                above[v] = taken[p] ? t->dist[p] : above[p];
+            }
+            for (int v = n - 1; v > 0; v--) {
+                if (taken[v]) continue;
+                uint64_t gain = reach[v] * (t->dist[v] - above[v]);
+                reach[t->parent[v]] += reach[v];
+                if (gain && gain >= most) most = gain, node = v; /* the smallest number on a tie */
+            }
+            done = !node;
+        }
+        taken[node] = 1, g->node[step] = node, total -= most;
+        g->total[step + 1] = total;
+    }
+}
+
+/* ---- the bill, by the definition of cost */
+
+static void make_bill(const struct tree *t, const uint16_t *set, size_t members, struct bill *b)
+{
+    char in[NODES] = { 0 };
+    for (size_t i = 0; i < members; i++)
+        in[set[i]] = 1;
+    b->total = 0;
+    memset(b->load, 0, sizeof b->load);
+    for (int v = 0; v < t->n; v++) {
+        uint64_t least = t->full[v] * t->dist[v];
+        int serving = 0, served = 0;
+        for (int u = v; u; u = t->parent[u]) {
+            uint64_t cost = (t->full[v] - t->cachable[v]) * t->dist[v] + t->cachable[v] * (t->dist[v] - t->dist[u]);
+            if (!in[u]) continue;
+            if (cost < least) least = cost;
+            if (!serving) serving = u;
+        }
+        for (int u = v; u; u = t->parent[u]) {
+            served |= u == serving;
+            b->load[u] += t->full[v] - (served ? t->cachable[v] : 0);
+        }
+        b->serving[v] = serving;
+        b->total += least;
+    }
+}
+
+/* ---- every set of a few nodes */
+
+static int members_below(const struct tree *t, unsigned set, int v)
+{
+    int count = 0;
+    for (int u = 1; u < t->n; u++)
+        for (int x = u; x; x = t->parent[x])
+            count += x == v && (set >> u & 1);
+    return count;
+}
+
+/* Of two sets with equal totals: fewest nodes, then at nodes 1, 2, .. more members at or below, then the node itself. */
+static int ties_before(const struct tree *t, unsigned a, unsigned b)
+{
+    int more = __builtin_popcount(a) - __builtin_popcount(b);
+    if (more) return more < 0;
+    for (int v = 1; v < t->n; v++) {
+        int below = members_below(t, a, v) - members_below(t, b, v), own = (a >> v & 1) - (b >> v & 1);
+        if (below) return below > 0;
+        if (own) return own > 0;
+    }
+    return 0;
+}
+
+static size_t nodes_of(const struct tree *t, unsigned set, uint16_t *out)
+{
+    size_t count = 0;
+    for (int v = 1; v < t->n; v++)
+        if (set >> v & 1) out[count++] = v;
+    return count;
+}
+
+static void enumerate(const struct tree *t, struct plan *p)
+{
+    static struct bill b;
+    for (int k = 0; k <= t->k; k++) {
+        unsigned best = 0;
+        uint16_t nodes[NODES];
+        for (unsigned set = 0; set < 1u << t->n; set += 2) {
+            if (__builtin_popcount(set) > k) continue;
+            make_bill(t, nodes, nodes_of(t, set, nodes), &b);
+            if (set && (b.total > p->total[k] || (b.total == p->total[k] && !ties_before(t, set, best)))) continue;
+            p->total[k] = b.total, best = set;
+        }
+        memset(p->row[k], 0, sizeof p->row[k]);
+        nodes_of(t, best, p->row[k]);
+    }
+}
+
+const struct planner PLANNER = { read_tree, make_plan, make_greedy, make_bill, enumerate };

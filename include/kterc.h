@@ -1,0 +1,69 @@
+/* The k-TERC planner for hosts in C. Link libkterc_c.a, which `rt staticlib kterc_c` proves and writes (x86-64).
+ *
+ * Memory. The host owns all of it: the library allocates nothing, keeps no pointer after a call and has no state, so calls on
+ * different memory may run at the same time. Each array is a pointer and its length in entries. A pointer is aligned for its
+ * type and not NULL, also where the length is 0, and the lent arrays of one call do not overlap each other or the file.
+ *
+ * File. A tree file as bytes, of any content and length: n nodes and budget k are read from it.
+ *
+ * Scratch. Words of 64 bits, n * (h + 1) * (k + 1) + 4 * n of them, where h is the tree's height; kterc_scratch_words says how
+ * many, and at most KTERC_SCRATCH_WORDS are asked. What they hold before a call does not matter. After an accepted call these
+ * words may hold anything; the words beyond them stay.
+ *
+ * Answers. Node numbers are of 16 bits, totals and loads of 64 bits in thousandths. Arrays may be longer than asked: entries
+ * beyond those written stay.
+ *
+ * Result. 0: accepted, the answers are written. Else the call is refused: KTERC_RULE tells the number of the first broken rule,
+ * KTERC_RECORD the record it broke on (0 where no record is at fault), and nothing is changed, neither answers nor scratch.
+ */
+#ifndef KTERC_H
+#define KTERC_H
+
+#include <stddef.h>
+#include <stdint.h>
+
+#ifdef __cplusplus
+extern "C" {
+#endif
+
+/* The largest sizes that a tree file can have, and the most words of scratch that rule 13 can ask for. */
+#define KTERC_NODES 1024
+#define KTERC_BUDGET 32
+#define KTERC_DEPTH 32
+#define KTERC_SCRATCH_WORDS (KTERC_NODES * (KTERC_DEPTH + 1) * (KTERC_BUDGET + 1) + 4 * KTERC_NODES)
+
+#define KTERC_RULE(answer) ((answer) % 256)
+#define KTERC_RECORD(answer) ((answer) / 256)
+
+/* 0, or the number (not the record) of the first broken rule among 1 to 11. */
+uint32_t kterc_check(const uint8_t *file, size_t file_length);
+
+/* The words of scratch that rule 13 asks for, 0 if the file is refused. */
+size_t kterc_scratch_words(const uint8_t *file, size_t file_length);
+
+/* The bill of a set of nodes, which is strictly ascending, each from 1 to n - 1 (rule 12). Asked of the arrays (rule 14): 1 entry
+ * of total, n of serving, n of loads. Writes the set's total, the serving node of each node, and the load on the link above each
+ * node. */
+uint32_t kterc_bill(const uint8_t *file, size_t file_length, const uint16_t *set, size_t set_length, uint64_t *total,
+                    size_t total_length, uint16_t *serving, size_t serving_length, uint64_t *loads, size_t loads_length);
+
+/* The plan. Asked of the arrays: k + 1 entries of totals, (k + 1) * k of rows. Total b, counted from 0, is the least total of at
+ * most b caches; row b, at rows + b * k, has the nodes of the first set that reaches it, ascending, then zeros. */
+uint32_t kterc_plan(const uint8_t *file, size_t file_length, uint64_t *scratch, size_t scratch_length, uint64_t *totals,
+                    size_t totals_length, uint16_t *rows, size_t rows_length);
+
+/* The greedy rule. Asked of the arrays: k + 1 entries of totals, k of nodes. Total b is what it reaches in at most b steps; nodes
+ * stand in the order taken, then zeros. */
+uint32_t kterc_greedy(const uint8_t *file, size_t file_length, uint64_t *scratch, size_t scratch_length, uint64_t *totals,
+                      size_t totals_length, uint16_t *nodes, size_t nodes_length);
+
+/* Both together, in the same scratch: the plan's totals and rows, then the greedy rule's totals and nodes. */
+uint32_t kterc_report(const uint8_t *file, size_t file_length, uint64_t *scratch, size_t scratch_length, uint64_t *totals,
+                      size_t totals_length, uint16_t *rows, size_t rows_length, uint64_t *greedy_totals,
+                      size_t greedy_totals_length, uint16_t *greedy_nodes, size_t greedy_nodes_length);
+
+#ifdef __cplusplus
+}
+#endif
+
+#endif
