@@ -2,9 +2,10 @@
 use mathlib.Core.Path.{_≡_, refl, sym, ap, _∙_}
 use mathlib.Core.List.{List, [], _∷_, append-nil, map}
 use Prim.Native.Nat.{ℕ, zero, suc, _+_, _≤_, _<_}
+use native.Mathlib.Decide.{decLt}
 use native.Mathlib.Omega.{arith}
-use lib.ListN.{length, take, getD}
-use lib.Seq.{sets, getD-take}
+use lib.ListN.{length, take, getD, set}
+use lib.Seq.{sets, getD-take, getD-set-same, getD-set-other}
 use Rattle.laws.specs.Lists.{range}
 use Rattle.laws.proofs.Lists.{length-of-range, entry-of-range, map-of-range-shift}
 use Rattle.laws.proofs.Stores.{part-same}
@@ -32,6 +33,15 @@ entry-of-range-alone f n j h =
 pub entry-of-front : (f : ℕ → ℕ) (n : ℕ) (l : List ℕ) (j : ℕ) → take n l ≡ map f (range 0 n) → j < n → getD l j 0 ≡ f j
 entry-of-front f n l j e h =
     sym (getD-take n l j 0 h) ∙ ap (λ r. getD r j 0) e ∙ entry-of-range-alone f n j h
+
+-- one entry more stored after the first n
+pub entries-next : (f : ℕ → ℕ) (l : List ℕ) (n x : ℕ) → ((j : ℕ) → j < n → getD l j 0 ≡ f j) → n < length l → x ≡ f n
+    → (j : ℕ) → j < n + 1 → getD (set l n x) j 0 ≡ f j
+entries-next f l n x k h e j b =
+    elim (decLt j n) [
+      | yes p ↦ getD-set-other l n j x 0 (λ q. omega arith) ∙ k j p
+      | no p ↦ let last : j ≡ n = omega arith in rw last (getD-set-same l n x 0 h ∙ e)
+    ]
 
 -- ---- a loop that wrote f 0, f 1, ..: where it ends
 

@@ -1,4 +1,4 @@
--- Depths in a tree: in preorder a node is one link deeper than its parent, and none is deeper than the height.
+-- Depths in a tree: at most the node's number; in preorder one more than the parent's, and none above the height.
 use mathlib.Core.Path.{_≡_, ap}
 use Prim.Native.Nat.{ℕ, zero, suc, _≤_, _<_}
 use native.Mathlib.Omega.{arith}
@@ -19,6 +19,17 @@ module _ (t : Tree) where
   pub route-length : (v : ℕ) → length (route t v) ≡ suc (depth t v)
   unfolding depth route
   route-length v = omega (arith, climb-some v v)
+
+  climb-few : (k v : ℕ) → length (climb (t .parent) k v) ≤ suc k
+  unfolding climb
+  climb-few zero v = omega arith
+  climb-few (suc k) zero = omega arith
+  climb-few (suc k) (suc v) = omega (arith, climb-few k (t .parent (suc v)))
+
+  -- a node's depth is at most its number
+  pub depth-within-number : (v : ℕ) → depth t v ≤ v
+  unfolding depth route
+  depth-within-number v = omega (arith, climb-few v v)
 
   pub depth-server : depth t 0 ≡ 0
   unfolding depth

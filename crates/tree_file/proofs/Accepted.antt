@@ -8,7 +8,7 @@ use native.Mathlib.Omega.{arith}
 use lib.ListN.{length}
 use Rattle.laws.specs.Lists.{range, greatest}
 use Rattle.laws.proofs.Lists.{greatest-snoc}
-use Rattle.model.specs.File.{treeOf, countOf, headerLength}
+use Rattle.model.specs.File.{treeOf, countOf, headerLength, mostNodes}
 use Rattle.model.specs.Tree.{depth, height}
 use Rattle.model.specs.Rules.{passed, fileVerdict}
 use Rattle.model.proofs.Accepted.{accepted-header, accepted-sound}
@@ -30,22 +30,27 @@ module _ (file : List ℕ) (ok : fileVerdict file ≡ passed) where
 
 -- ---- the height, as it is found
 
--- the greatest depth of the nodes before v
-abbrev pub Tallest : List ℕ → ℕ → ℕ → ℕ → Type 0
-Tallest file n v tallest = (v ≤ n) × (tallest ≡ greatest (depth (treeOf file)) (range 0 v))
-
 module _ (file : List ℕ) (n : ℕ) where
-  pub tallest-begins : Tallest file n 0 0
+  -- the greatest depth of the nodes before v
+  pub record Tallest (v tallest : ℕ) : Type 0 where
+    pub some : v ≤ n
+    pub few : n ≤ mostNodes
+    pub highest : tallest ≡ greatest (depth (treeOf file)) (range 0 v)
+
+  pub tallest-begins : fileVerdict file ≡ passed → n ≡ countOf file → Tallest 0 0
   unfolding greatest range
-  tallest-begins = (omega arith, refl)
+  tallest-begins ok e = record { some = omega arith; few = omega (arith, accepted-header file ok .few); highest = refl }
 
-  pub tallest-turns : (v tallest x taller : ℕ) → Tallest file n v tallest → v < n → x ≡ depth (treeOf file) v → taller ≡ max tallest x
-      → Tallest file n (v + 1) taller
+  pub tallest-turns : (v tallest x taller : ℕ) → Tallest v tallest → v < n → x ≡ depth (treeOf file) v → taller ≡ max tallest x → Tallest (v + 1) taller
   tallest-turns v tallest x taller k h e m =
-      (omega arith, rw (add-one v, greatest-snoc (depth (treeOf file)) 0 v, zero-add v) (omega (arith, k .1)))
+      record {
+        some = omega arith;
+        few = k .few;
+        highest = rw (add-one v, greatest-snoc (depth (treeOf file)) 0 v, zero-add v) (omega (arith, k .highest));
+      }
 
-  pub tallest-ends : (v tallest : ℕ) → Tallest file n v tallest → n ≤ v → n ≡ countOf file → tallest ≡ height (treeOf file)
+  pub tallest-ends : (v tallest : ℕ) → Tallest v tallest → n ≤ v → n ≡ countOf file → tallest ≡ height (treeOf file)
   unfolding height
   tallest-ends v tallest k h e =
-      let whole : v ≡ countOf file = omega (arith, k .0) in
-      k .1 ∙ ap (λ (m : ℕ). greatest (depth (treeOf file)) (range 0 m)) whole
+      let whole : v ≡ countOf file = omega (arith, k .some) in
+      k .highest ∙ ap (λ (m : ℕ). greatest (depth (treeOf file)) (range 0 m)) whole

@@ -1,14 +1,13 @@
 -- Climbing a route by the file's own parents: what stays from node to node.
-use mathlib.Core.Path.{_≡_, refl, sym, ap, _∙_}
+use mathlib.Core.Path.{_≡_, refl, sym, _∙_}
 use mathlib.Core.Bool.{true, false}
 use mathlib.Core.List.{List, [], _∷_}
-use Prim.Native.Nat.{ℕ, zero, suc, _+_, _≤_, _<_}
+use Prim.Native.Nat.{ℕ, zero, suc, _≤_, _<_}
 use native.Mathlib.Omega.{arith}
-use lib.ListN.{length}
 use Rattle.laws.specs.Lists.{has}
 use Rattle.laws.proofs.Lists.{has-head, has-other}
 use Rattle.model.specs.File.{treeOf}
-use Rattle.model.specs.Tree.{route, depth}
+use Rattle.model.specs.Tree.{route}
 use Rattle.model.proofs.Routes.{route-server, parent-before-to, route-up-to}
 use Rattle.fields.specs.Table.{InFile}
 use Rattle.tree_file.specs.Checks.{Climbable}
@@ -36,7 +35,7 @@ module _ (file : List ℕ) (v : ℕ) where
   pub climb-turns : (x y : ℕ) → Climbing file v x → (x ≡ 0 → ⊥) → y ≡ treeOf file .parent x → Climbing file v y
   climb-turns x y k z e = record { climbable = k .climbable; under = omega (arith, parent-less x y k z e, k .under) }
 
-  route-turns : (x y : ℕ) → Climbing file v x → (x ≡ 0 → ⊥) → y ≡ treeOf file .parent x → route (treeOf file) x ≡ x ∷ route (treeOf file) y
+  pub route-turns : (x y : ℕ) → Climbing file v x → (x ≡ 0 → ⊥) → y ≡ treeOf file .parent x → route (treeOf file) x ≡ x ∷ route (treeOf file) y
   route-turns zero y k z e = absurd (z refl)
   route-turns (suc x) y k z e =
       rw e (route-up-to (treeOf file) (suc v) (k .climbable .preorder) x (omega (arith, k .under)))
@@ -61,20 +60,3 @@ module _ (file : List ℕ) (v : ℕ) where
 
   pub seek-meets : (a x : ℕ) → Seeking a x → x ≡ a → true ≡ has (route (treeOf file) v) a
   seek-meets a x k e = sym (k .1 ∙ rw (← e) (route-here x (k .0)))
-
-  -- ---- how many links?
-
-  abbrev pub Counting : ℕ → ℕ → Type 0
-  Counting x links = Climbing file v x × (length (route (treeOf file) v) ≡ links + length (route (treeOf file) x)) × (links + x ≤ v)
-
-  pub count-turns : (x y links : ℕ) → Counting x links → (x ≡ 0 → ⊥) → y ≡ treeOf file .parent x → Counting y (links + 1)
-  count-turns x y links k z e = (
-    climb-turns x y (k .0) z e,
-    omega (arith, k .1, ap length (route-turns x y (k .0) z e)),
-    omega (arith, parent-less x y (k .0) z e, k .2),
-  )
-
-  pub count-ends : (x links : ℕ) → Counting x links → x ≡ 0 → links ≡ depth (treeOf file) v
-  unfolding depth
-  count-ends x links k z =
-      omega (arith, k .1, ap (λ (u : ℕ). length (route (treeOf file) u)) z, ap length (route-server (treeOf file)))

@@ -1,4 +1,5 @@
 mod Climbs
+mod Depths
 mod Records
 mod Header
 pub mod Accepted

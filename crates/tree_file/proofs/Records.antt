@@ -78,13 +78,16 @@ module _ (file : List ℕ) where
           preorder = p .preorder;
         }
 
+    pub pass-climbs : (i : ℕ) → Passing i → i < n → passed ≡ recordVerdict (treeOf file) (demandOf file) i → Climbable file i
+    pass-climbs i p h e = climbs-here i (pass-next i p h) (record-holds (treeOf file) (demandOf file) i (sym e) .parent)
+
     pub pass-turns : (i : ℕ) → Passing i → i < n → passed ≡ recordVerdict (treeOf file) (demandOf file) i → Passing (i + 1)
     unfolding recordsVerdict
     pass-turns i p h e =
         rw (add-one i) (record {
           some = omega arith;
           there = p .there;
-          preorder = one-more (treeOf file) i (p .preorder) (record-holds (treeOf file) (demandOf file) i (sym e) .parent);
+          preorder = pass-climbs i p h e .preorder;
           passing = ap₂ _then_ (p .passing) (sym e);
         })
 

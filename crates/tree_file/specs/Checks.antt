@@ -1,9 +1,10 @@
 -- What the answers of the check mean in the model's words, and which records its steps may read.
+use mathlib.Core.Path.{_≡_}
 use mathlib.Core.List.{List}
-use Prim.Native.Nat.{ℕ, suc, _≤_}
-use lib.ListN.{length}
-use Rattle.model.specs.File.{mostNodes, countOf, budgetOf, recordAt, treeOf}
-use Rattle.model.specs.Tree.{height}
+use Prim.Native.Nat.{ℕ, suc, _≤_, _<_}
+use lib.ListN.{length, getD}
+use Rattle.model.specs.File.{Tree, mostNodes, countOf, budgetOf, recordAt, treeOf}
+use Rattle.model.specs.Tree.{depth, height}
 use Rattle.model.specs.Rules.{Verdict, passed, broken}
 use Rattle.model.specs.Calls.{Answer, answered, refused}
 use Rattle.model.proofs.Routes.{PreorderTo}
@@ -35,6 +36,11 @@ pub record NextRecord (file : List ℕ) (i : ℕ) : Type 0 where
 pub record Climbable (file : List ℕ) (v : ℕ) : Type 0 where
   pub here : InFile file v
   pub preorder : PreorderTo (treeOf file) (suc v)
+
+-- the depths of the nodes before v are kept, with an entry for every node of the largest tree
+pub record DepthsTo (t : Tree) (depths : List ℕ) (v : ℕ) : Type 0 where
+  pub room : mostNodes ≡ length depths
+  pub entry : (u : ℕ) → u < v → getD depths u 0 ≡ depth t u
 
 -- the first n records stand in the file
 pub record RecordsThere (file : List ℕ) (n : ℕ) : Type 0 where

@@ -8,7 +8,7 @@ ghost use Rattle.model.specs.Tree.{route, depth, height};
 ghost use Rattle.model.specs.Rules.{passed, marked, parentHolds, lengthHolds, recordVerdict, recordsVerdict, fileVerdict};
 ghost use Rattle.model.specs.Calls.{answer, checkNumber, recordBytes};
 ghost use Rattle.fields.specs.Table.{InFile};
-ghost use Rattle.tree_file.specs.Checks.{verdictOf, answerOf, sizesOf, Climbable, NextRecord, RecordsThere};
+ghost use Rattle.tree_file.specs.Checks.{verdictOf, answerOf, sizesOf, Climbable, DepthsTo, NextRecord, RecordsThere};
 
 // The first no among the rules asked, with its number and record, if there is one.
 pub enum Ruling {
@@ -22,7 +22,7 @@ pub enum Checked {
     Refused(u8, u16),
 }
 
-// ---- routes, by the file's own parents
+// ---- routes and depths, by the file's own parents
 
 // Is a on the route of v?
 fn on_route(file: &[u8], v: usize, a: usize) -> bool
@@ -39,18 +39,17 @@ fn on_route(file: &[u8], v: usize, a: usize) -> bool
     true
 }
 
-// Links from v to the server.
-pub fn depth_of(file: &[u8], v: usize) -> usize
+// Links from v to the server, one more than its parent has.
+fn depth_of(file: &[u8], depths: &[usize], v: usize) -> usize
     requires { ⌜ Climbable (now file) v ⌝ }
+    requires { ⌜ DepthsTo (treeOf (now file)) (now depths) v ⌝ }
     ensures { λ r. ⌜ r ≡ depth (treeOf (now (file .entry))) v ⌝ }
 {
-    let mut x = v;
-    let mut links = 0;
-    while x != 0 {
-        x = fields::parent_of(file, x);
-        links += 1;
+    if v == 0 {
+        return 0;
     }
-    links
+    let parent = fields::parent_of(file, v);
+    depths[parent] + 1
 }
 
 // ---- rules 7 to 11, record by record
@@ -78,16 +77,17 @@ fn length_holds(file: &[u8], i: usize) -> bool
     fields::within(file, 1, i)
 }
 
-// Rules 7 to 11 of record i, where they hold of the records before it.
-fn record_ruling(file: &[u8], i: usize) -> Ruling
+// Rules 7 to 11 of record i, where they hold of the records before it and their depths are kept.
+fn record_ruling(file: &[u8], depths: &[usize], i: usize) -> Ruling
     requires { ⌜ NextRecord (now file) i ⌝ }
+    requires { ⌜ DepthsTo (treeOf (now file)) (now depths) i ⌝ }
     ensures { λ r. ⌜ verdictOf r ≡ recordVerdict (treeOf (now (file .entry))) (demandOf (now (file .entry))) i ⌝ }
 {
     let record = i as u16;
     if !parent_holds(file, i) {
         return Ruling::Broken(7, record);
     }
-    if fields::Tree::DEPTH < depth_of(file, i) {
+    if fields::Tree::DEPTH < depth_of(file, depths, i) {
         return Ruling::Broken(8, record);
     }
     if !length_holds(file, i) {
@@ -107,15 +107,17 @@ fn records_ruling(file: &[u8], n: usize) -> Ruling
     requires { ⌜ RecordsThere (now file) n ⌝ }
     ensures { λ r. ⌜ verdictOf r ≡ recordsVerdict (treeOf (now (file .entry))) (demandOf (now (file .entry))) n ⌝ }
 {
+    let mut depths = [0usize; fields::Tree::NODES];
     let mut i = 0;
     while i < n {
-        let ruling = record_ruling(file, i);
+        let ruling = record_ruling(file, &depths, i);
         match ruling {
             Ruling::Passed => {}
             Ruling::Broken(q, record) => {
                 return Ruling::Broken(q, record);
             }
         }
+        depths[i] = depth_of(file, &depths, i);
         i += 1;
     }
     Ruling::Passed
@@ -185,10 +187,13 @@ fn height_of(file: &[u8], n: usize) -> usize
     requires { ⌜ n ≡ countOf (now file) ⌝ }
     ensures { λ r. ⌜ r ≡ height (treeOf (now (file .entry))) ⌝ }
 {
+    let mut depths = [0usize; fields::Tree::NODES];
     let mut tallest = 0;
     let mut v = 0;
     while v < n {
-        tallest = larger(tallest, depth_of(file, v));
+        let depth = depth_of(file, &depths, v);
+        depths[v] = depth;
+        tallest = larger(tallest, depth);
         v += 1;
     }
     tallest

@@ -1,34 +1,37 @@
--- `depth_of`: links from v to the server.
+-- `depth_of`: links from v to the server, one more than its parent has.
 use native.Mathlib.Omega.{arith}
-use Rattle.tree_file.proofs.Climbs.{Counting, climb-begins, record-below, parent-less, count-turns, count-ends}
+use borrow.Author.Needs.{needs}
+use Rattle.tree_file.proofs.Depths.{server-depth, parent-first, one-deeper, depth-small}
 use Rattle.tree_file.proofs.depth_of.Statement.{statement}
 use Rattle.tree_file.proofs.depth_of.Tie as tie
 
-abbrev Inv-loop : tie.InvT-loop
-Inv-loop file v x₀ links₀ x links = Counting file v x links
+returns : tie.Need-returns
+returns c = server-depth _ _ (c .if1 .taken)
 
-abbrev μ-loop : tie.MeasureT-loop
-μ-loop file v x₀ links₀ x links = x
+parent-of-requires : tie.Need-parent-of-requires
+parent-of-requires c κs = search needs
 
-loop-holds : tie.Need-loop-holds Inv-loop μ-loop
-loop-holds c = (climb-begins _ _ (c .before .pre), omega arith, omega arith)
+mul-result : tie.Need-mul-result
+mul-result c =
+    let start = c .before .before .before .before in
+    omega (arith, parent-first _ _ _ (start .pre .0) (c .before .if1 .left) (c .parent-of .ensures), start .pre .0 .here .node)
 
-parent-of-requires : tie.Need-parent-of-requires Inv-loop μ-loop
-parent-of-requires c κs = record-below _ _ _ (c .before .loop .inv .0)
+shared-slice-read-result : tie.Need-shared-slice-read-result
+shared-slice-read-result c =
+    let start = c .before .before .before .before .before in
+    omega (arith, parent-first _ _ _ (start .pre .0) (c .before .before .if1 .left) (c .before .parent-of .ensures), start .pre .0 .here .node, start .pre .1 .room)
 
-add-links : tie.Need-add-links Inv-loop μ-loop
-add-links c = omega (arith, c .before .before .loop .inv .2)
+add-result : tie.Need-add-result
+add-result c =
+    let start = c .before .before .before .before .before in
+    omega (arith, depth-small _ _ _ (start .pre .0) (c .before .before .if1 .left) (c .before .parent-of .ensures) _ (start .pre .1))
 
-loop-less : tie.Need-loop-less Inv-loop μ-loop
-loop-less c = parent-less _ _ _ _ (c .before .before .loop .inv .0) (c .before .loop-test .taken) (c .parent-of .ensures)
-
-loop-again : tie.Need-loop-again Inv-loop μ-loop
-loop-again c = count-turns _ _ _ _ _ (c .before .before .loop .inv) (c .before .loop-test .taken) (c .parent-of .ensures)
-
-returns : tie.Need-returns Inv-loop μ-loop
-returns c = count-ends _ _ _ _ (c .before .loop .inv) (c .loop-test .left)
+returns-2 : tie.Need-returns-2
+returns-2 c =
+    let start = c .before .before .before .before .before in
+    one-deeper _ _ _ (start .pre .0) (c .before .before .if1 .left) (c .before .parent-of .ensures) _ (start .pre .1)
 
 pub depth-of-spec : {M : Type 1} → statement M
 depth-of-spec =
     tie.close
-    (tie.spec Inv-loop μ-loop loop-holds parent-of-requires add-links loop-less loop-again returns)
+    (tie.spec returns parent-of-requires mul-result shared-slice-read-result add-result returns-2)

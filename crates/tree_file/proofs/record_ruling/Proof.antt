@@ -31,21 +31,21 @@ calls = (
 
 -- ---- what holds past each test
 
-right-parent : (c : lts.Else1 calls reads.Pre reads.Post) → parentHolds (treeOf (c .before .before .before .args .file .now)) (c .before .before .before .args .i) ≡ true
+right-parent : (c : lts.Else1 calls reads.Pre reads.Post) → parentHolds (treeOf (c .before .before .before .before .args .file .now)) (c .before .before .before .before .args .i) ≡ true
 right-parent c = held (c .before .parent-holds .ensures) (c .if1 .left)
 
-shallow : (c : lts.Else2 calls reads.Pre reads.Post) → leb (depth (treeOf (c .before .before .before .before .before .args .file .now)) (c .before .before .before .before .before .args .i)) mostDepth ≡ true
+shallow : (c : lts.Else2 calls reads.Pre reads.Post) → leb (depth (treeOf (c .before .before .before .before .before .before .args .file .now)) (c .before .before .before .before .before .before .args .i)) mostDepth ≡ true
 shallow c = within-held (c .before .depth-of .ensures) (c .if2 .left)
 
-right-length : (c : lts.Else3 calls reads.Pre reads.Post) → lengthHolds (treeOf (c .before .before .before .before .before .before .before .args .file .now)) (c .before .before .before .before .before .before .before .args .i) ≡ true
+right-length : (c : lts.Else3 calls reads.Pre reads.Post) → lengthHolds (treeOf (c .before .before .before .before .before .before .before .before .args .file .now)) (c .before .before .before .before .before .before .before .before .args .i) ≡ true
 right-length c = held (c .before .length-holds .ensures) (c .if3 .left)
 
 small-flow : (c : lts.Else4 calls reads.Pre reads.Post)
-    → leb (demandOf (c .before .before .before .before .before .before .before .before .before .args .file .now) .flow (c .before .before .before .before .before .before .before .before .before .args .i)) (flowField .most) ≡ true
+    → leb (demandOf (c .before .before .before .before .before .before .before .before .before .before .args .file .now) .flow (c .before .before .before .before .before .before .before .before .before .before .args .i)) (flowField .most) ≡ true
 small-flow c = held (c .before .within .ensures) (c .if4 .left)
 
 small-hit : (c : lts.Else5 calls reads.Pre reads.Post)
-    → leb (demandOf (c .before .before .before .before .before .before .before .before .before .before .before .args .file .now) .hit (c .before .before .before .before .before .before .before .before .before .before .before .args .i)) (hitField .most) ≡ true
+    → leb (demandOf (c .before .before .before .before .before .before .before .before .before .before .before .before .args .file .now) .hit (c .before .before .before .before .before .before .before .before .before .before .before .before .args .i)) (hitField .most) ≡ true
 small-hit c = held (c .before .within2 .ensures) (c .if5 .left)
 
 -- ---- the answers
@@ -61,7 +61,7 @@ unfolding recordVerdict
 returns c = simp (failed (c .before .parent-holds .ensures) (c .if1 .taken))
 
 depth-of-requires : tie.Need-depth-of-requires
-depth-of-requires c κs = climbs-here _ _ (c .before .before .before .pre) (right-parent c)
+depth-of-requires c κs = (climbs-here _ _ (c .before .before .before .before .pre .0) (right-parent c), c .before .before .before .before .pre .1)
 
 returns-2 : tie.Need-returns-2
 unfolding recordVerdict
