@@ -1,0 +1,230 @@
+/* The proved library against the reference in C: random trees of every size, damaged files, buffers of wrong lengths, and guard
+ * words around all that is lent. Stops at the first difference. */
+#include <inttypes.h>
+#include <stdio.h>
+#include <stdlib.h>
+#include <string.h>
+
+#include "kterc.h"
+#include "lend.h"
+#include "reference.h"
+#include "trees.h"
+
+/* Trees of one size and of few nodes, and damaged files of each tree. */
+enum { EACH_SIZE = 3, SMALL = 4000, SMALL_NODES = 9, DAMAGED = 4 };
+
+static uint64_t seed = 20000601;
+static struct { long trees, enumerated, damaged, calls, refused; } count;
+
+/* The tree at hand: its file, and what the reference says of it. */
+static struct {
+    uint8_t file[FILE_BYTES + 16];
+    size_t length, n, k, words;
+    uint32_t code;
+    struct tree tree;
+    struct plan plan;
+    struct greedy greedy;
+} at;
+
+static void check_that(int holds, const char *what)
+{
+    if (holds) return;
+    FILE *f = fopen("target/differs.ktr", "wb");
+    if (f) fwrite(at.file, 1, at.length, f), fclose(f);
+    printf("differs: %s, on the file target/differs.ktr of %zu bytes\n", what, at.length);
+    exit(1);
+}
+
+static uint64_t upto(uint64_t most) { return (noise(&seed) >> 20) % (most + 1); }
+
+/* A length for a buffer of which `asked` entries are asked: mostly as many, or more, or fewer. */
+static size_t vary(size_t asked)
+{
+    uint64_t kind = upto(15);
+    if (kind == 0 && asked) return upto(asked - 1);
+    if (kind == 1 && asked) return asked - 1;
+    return kind < 9 ? asked : asked + upto(9);
+}
+
+/* Rules 1 to 11, then the call's own two, in this order. */
+static uint32_t first_broken(uint32_t rule, int holds, int buffers_long)
+{
+    uint32_t answer = at.code ? at.code : !holds ? rule : !buffers_long ? 14 : 0;
+    count.calls++, count.refused += answer != 0;
+    return answer;
+}
+
+/* An array after a call: `bytes` of `expected` in front if it was accepted, and all else as before. */
+static void check_array(struct lent *l, uint32_t answer, const void *expected, size_t bytes, const char *what)
+{
+    if (!answer) check_that(!memcmp(l->memory, expected, bytes), what);
+    check_that(kept(l, answer ? 0 : bytes), what);
+    give_back(l);
+}
+
+static void check_scratch(struct lent *l, uint32_t answer)
+{
+    check_that(kept(l, answer ? 0 : at.words * sizeof(uint64_t)), "scratch beyond the words asked");
+    give_back(l);
+}
+
+/* ---- the calls */
+
+static const uint16_t *plan_rows(void)
+{
+    static uint16_t rows[(BUDGET + 1) * BUDGET];
+    for (size_t b = 0; b <= at.k; b++)
+        memcpy(rows + b * at.k, at.plan.row[b], at.k * sizeof *rows);
+    return rows;
+}
+
+static void try_plan(void)
+{
+    size_t k = at.k, words = vary(at.words), t = vary(k + 1), r = vary((k + 1) * k);
+    struct lent scratch = lend(words, 8, &seed), totals = lend(t, 8, &seed), rows = lend(r, 2, &seed);
+    uint32_t answer = kterc_plan(at.file, at.length, (uint64_t *)scratch.memory, words, (uint64_t *)totals.memory, t,
+                                 (uint16_t *)rows.memory, r);
+    check_that(answer == first_broken(13, words >= at.words, t >= k + 1 && r >= (k + 1) * k), "the plan's answer");
+    check_array(&totals, answer, at.plan.total, (k + 1) * 8, "the plan's totals");
+    check_array(&rows, answer, plan_rows(), (k + 1) * k * 2, "the plan's rows");
+    check_scratch(&scratch, answer);
+}
+
+static void try_greedy(void)
+{
+    size_t k = at.k, words = vary(at.words), t = vary(k + 1), r = vary(k);
+    struct lent scratch = lend(words, 8, &seed), totals = lend(t, 8, &seed), nodes = lend(r, 2, &seed);
+    uint32_t answer = kterc_greedy(at.file, at.length, (uint64_t *)scratch.memory, words, (uint64_t *)totals.memory, t,
+                                   (uint16_t *)nodes.memory, r);
+    check_that(answer == first_broken(13, words >= at.words, t >= k + 1 && r >= k), "the greedy rule's answer");
+    check_array(&totals, answer, at.greedy.total, (k + 1) * 8, "the greedy rule's totals");
+    check_array(&nodes, answer, at.greedy.node, k * 2, "the greedy rule's nodes");
+    check_scratch(&scratch, answer);
+}
+
+static void try_report(void)
+{
+    size_t k = at.k, words = vary(at.words), t = vary(k + 1), r = vary((k + 1) * k), g = vary(k + 1), s = vary(k);
+    struct lent scratch = lend(words, 8, &seed), totals = lend(t, 8, &seed), rows = lend(r, 2, &seed);
+    struct lent greedys = lend(g, 8, &seed), taken = lend(s, 2, &seed);
+    uint32_t answer = kterc_report(at.file, at.length, (uint64_t *)scratch.memory, words, (uint64_t *)totals.memory, t,
+                                   (uint16_t *)rows.memory, r, (uint64_t *)greedys.memory, g, (uint16_t *)taken.memory, s);
+    int buffers_long = t >= k + 1 && r >= (k + 1) * k && g >= k + 1 && s >= k;
+    check_that(answer == first_broken(13, words >= at.words, buffers_long), "the report's answer");
+    check_array(&totals, answer, at.plan.total, (k + 1) * 8, "the report's plan totals");
+    check_array(&rows, answer, plan_rows(), (k + 1) * k * 2, "the report's plan rows");
+    check_array(&greedys, answer, at.greedy.total, (k + 1) * 8, "the report's greedy totals");
+    check_array(&taken, answer, at.greedy.node, k * 2, "the report's greedy nodes");
+    check_scratch(&scratch, answer);
+}
+
+static int is_set(const uint16_t *set, size_t members)
+{
+    for (size_t i = 0; i < members; i++)
+        if (set[i] >= at.n || set[i] <= (i ? set[i - 1] : 0)) return 0;
+    return 1;
+}
+
+static void try_bill(const uint16_t *set, size_t members)
+{
+    static struct bill bill;
+    size_t n = at.n, o = vary(1), v = vary(n), l = vary(n);
+    int good = is_set(set, members);
+    struct lent total = lend(o, 8, &seed), serving = lend(v, 2, &seed), loads = lend(l, 8, &seed);
+    uint32_t answer = kterc_bill(at.file, at.length, set, members, (uint64_t *)total.memory, o, (uint16_t *)serving.memory, v,
+                                 (uint64_t *)loads.memory, l);
+    if (!at.code && good) planner.bill(&at.tree, set, members, &bill);
+    check_that(answer == first_broken(12, good, o >= 1 && v >= n && l >= n), "the bill's answer");
+    check_array(&total, answer, &bill.total, 8, "the bill's total");
+    check_array(&serving, answer, bill.serving, n * 2, "the serving nodes");
+    check_array(&loads, answer, bill.load, n * 8, "the link loads");
+}
+
+/* ---- a file */
+
+static void try_sets(void)
+{
+    uint16_t set[NODES + 1] = { 0 };
+    size_t members = random_set(set, at.n, &seed);
+    try_bill(set, members);
+    set[upto(members)] = upto(at.n + 1);
+    try_bill(set, members + upto(1));
+}
+
+static void try_file(void)
+{
+    check_that(kterc_check(at.file, at.length) == at.code % 256, "the check");
+    check_that(kterc_scratch_words(at.file, at.length) == (at.code ? 0 : at.words), "the words of scratch");
+    try_plan();
+    try_greedy();
+    try_report();
+    try_sets();
+}
+
+static void read_file(void)
+{
+    at.code = planner.read(at.file, at.length, &at.tree);
+    if (at.code) return; /* sizes stay those of the tree before: lengths to lend */
+    at.n = at.tree.n, at.k = at.tree.k;
+    at.words = at.n * (at.tree.h + 1) * (at.k + 1) + 4 * at.n;
+}
+
+static void solve(void)
+{
+    static uint64_t scratch[SCRATCH_WORDS];
+    static struct plan other;
+    planner.plan(&at.tree, scratch, RUNS, &at.plan);
+    planner.plan(&at.tree, scratch, SPLITS, &other);
+    for (size_t b = 0; b <= at.k; b++)
+        check_that(at.plan.total[b] == other.total[b] && !memcmp(at.plan.row[b], other.row[b], sizeof other.row[b]), "the reference");
+    planner.greedy(&at.tree, &at.greedy);
+}
+
+static void try_tree(int n)
+{
+    at.length = random_tree(at.file, n, upto(BUDGET), &seed);
+    read_file();
+    check_that(!at.code, "a tree file was not accepted by the reference");
+    solve();
+    count.trees++;
+    try_file();
+    for (int i = 0; i < DAMAGED; i++) {
+        uint8_t whole[sizeof at.file];
+        size_t length = at.length;
+        memcpy(whole, at.file, sizeof whole);
+        at.length = damage(at.file, length, &seed);
+        read_file();
+        if (!at.code) solve();
+        count.damaged++;
+        try_file();
+        memcpy(at.file, whole, sizeof whole);
+        at.length = length;
+        read_file();
+        solve();
+    }
+}
+
+/* The reference itself against every set. */
+static void enumerate(void)
+{
+    static struct plan all;
+    planner.enumerate(&at.tree, &all);
+    for (size_t b = 0; b <= at.k; b++)
+        check_that(at.plan.total[b] == all.total[b] && !memcmp(at.plan.row[b], all.row[b], sizeof all.row[b]), "the enumeration");
+    count.enumerated++;
+}
+
+int main(void)
+{
+    for (int i = 0; i < SMALL; i++)
+        try_tree(1 + upto(SMALL_NODES - 1)), enumerate();
+    for (int n = 1; n <= NODES; n++)
+        for (int i = 0; i < EACH_SIZE; i++)
+            try_tree(n);
+    printf("%ld random trees of 1 to %d nodes, %ld of them of at most %d nodes and enumerated\n", count.trees, NODES,
+           count.enumerated, SMALL_NODES);
+    printf("%ld damaged files\n", count.damaged);
+    printf("%ld calls, %ld of them refused, with guards around every buffer\n", count.calls, count.refused);
+    printf("none differed\n");
+    return 0;
+}
