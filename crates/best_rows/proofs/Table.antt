@@ -3,6 +3,7 @@ use mathlib.Core.Path.{_≡_, ap, _∙_}
 use mathlib.Core.Bool.{Bool, true, false, cond}
 use mathlib.Core.List.{_++_}
 use Prim.Native.Nat.{ℕ, suc, _+_, _-_, _≤_, _<_, min}
+use native.Mathlib.Decide.{decLt}
 use native.Mathlib.Omega.{arith}
 use lib.ListN.{length}
 use Rattle.model.specs.File.{Tree, Demand}
@@ -39,6 +40,17 @@ module _ (t : Tree) (d : Demand) where
   length-best-nodes v c m h =
       length-chosen (rowAt t v) (choose one prefer (site t d) (rowAt t v) c m) ∙ best-attained one prefer (site t d) (rowAt t v) c m h .0
 
+  -- more caches than nodes cannot be had
+  pub best-at-over : (v c m : ℕ) → rowSize (rowAt t v) < m → bestAt t d v c m ≡ cap
+  unfolding bestAt
+  best-at-over v c m h =
+      elim (decLt (bestAt t d v c m) cap) [
+        | yes l ↦
+            let x = choose one prefer (site t d) (rowAt t v) c m in
+            absurd (omega (arith, best-attained one prefer (site t d) (rowAt t v) c m l .0, count-within-size (rowAt t v) x))
+        | no l ↦ omega (arith, best-at-within-cap v c m)
+      ]
+
   -- ---- no node
 
   pub best-at-none-over : (c m : ℕ) → bestAt t d 0 c (suc m) ≡ cap
@@ -53,6 +65,17 @@ module _ (t : Tree) (d : Demand) where
       (one v u ≤ n) × (nodeBestAt t d v c n ≡ price t d v (cond u v c) + bestAt t d (firstChild t v) (cond u v c) (n - one v u))
   unfolding nodeBestAt takesNode nodeBest
   node-best-attained v c n h = side-fits (one v) (site t d v .pay c) (childrenAt t d v c) n (takesNode t d v c n) h
+
+  -- more caches than v and the nodes below it cannot be had
+  pub node-best-over : (v c n : ℕ) → 1 + rowSize (rowAt t (firstChild t v)) < n → cap ≤ nodeBestAt t d v c n
+  node-best-over v c n h =
+      elim (decLt (nodeBestAt t d v c n) cap) [
+        | yes l ↦
+            let u = takesNode t d v c n in
+            let over = best-at-over (firstChild t v) (cond u v c) (n - one v u) (omega (arith, one-within v u)) in
+            absurd (omega (arith, node-best-attained v c n l .1))
+        | no l ↦ omega arith
+      ]
 
   -- ---- the row that begins with v, with m caches
 

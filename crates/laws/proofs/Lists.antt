@@ -41,6 +41,12 @@ lacks-head x v xs h e = not-both (rw e (has-head v xs)) h
 pub lacks-tail : (x v : ℕ) (xs : List ℕ) → has (x ∷ xs) v ≡ false → has xs v ≡ false
 lacks-tail x v xs h = sym (has-other x v xs (lacks-head x v xs h)) ∙ h
 
+-- ---- no entries
+
+pub none-of-length : (l : List ℕ) → length l ≡ 0 → l ≡ []
+none-of-length [] e = refl
+none-of-length (x ∷ xs) e = absurd (omega arith)
+
 -- ---- ranges
 
 pub length-range : (i n : ℕ) → length (range i n) ≡ n

@@ -1,12 +1,13 @@
 -- Laws of the first of the least: of two functions that agree, and of a loop that looks for it.
 use mathlib.Core.Path.{_≡_, refl, sym, ap, _∙_}
 use mathlib.Core.Bool.{Bool, true, false}
-use Prim.Native.Nat.{ℕ, zero, suc, _+_, _-_, _≤_, _<_}
+use Prim.Native.Nat.{ℕ, zero, suc, _+_, _≤_, _<_}
+use native.Mathlib.Decide.{decLt}
 use native.Mathlib.Omega.{arith}
 use lib.Dec.{ltb}
 use borrow.Author.Tests.{ltb-true, ltb-false}
 use Rattle.best_rows.specs.Least.{better, firstLeast}
-use Rattle.best_rows.proofs.Least.{better-cases, first-least-within}
+use Rattle.best_rows.proofs.Least.{Wins, first-least-within, first-least-wins}
 
 pub first-least-same : (f g : ℕ → ℕ) (n : ℕ) → ((i : ℕ) → i ≤ n → f i ≡ g i)
     → (firstLeast f n ≡ firstLeast g n) × (f (firstLeast f n) ≡ g (firstLeast g n))
@@ -20,47 +21,57 @@ first-least-same f g (suc n) h =
 -- ---- a loop
 
 module _ (f : ℕ → ℕ) where
-  -- of 0 to r − 1, f is least at `first` first, and it is `least` there
-  pub record FirstBefore (r first least : ℕ) : Type 0 where
-    pub some : 0 < r
-    pub is-first : first ≡ firstLeast f (r - 1)
+  -- of `start` to r − 1, f is least at `first` first, and it is `least` there
+  pub record FirstFrom (start r first least : ℕ) : Type 0 where
+    pub inside : (start ≤ first) × (first < r)
+    pub wins : (i : ℕ) → start ≤ i → i < r → Wins f first i
     pub value : least ≡ f first
 
-  pub first-begins : {least : ℕ} → least ≡ f 0 → FirstBefore 1 0 least
-  unfolding firstLeast
-  first-begins e = record { some = omega arith; is-first = refl; value = e }
+  pub first-begins : {start least : ℕ} → least ≡ f start → FirstFrom start (start + 1) start least
+  first-begins {start} e = record {
+    inside = omega arith;
+    wins = λ i h k. let only : i ≡ start = omega arith in rw only (omega arith);
+    value = e;
+  }
 
-  first-next : (r : ℕ) → 0 < r → firstLeast f (r + 1 - 1) ≡ better f (firstLeast f (r - 1)) r
-  unfolding firstLeast
-  first-next zero h = absurd (omega arith)
-  first-next (suc n) h =
-      let now : suc n + 1 - 1 ≡ suc n = omega arith in
-      let last : suc n - 1 ≡ n = omega arith in
-      rw (now, last)
+  module _ {start r first least sum : ℕ} {less : Bool} (so-far : FirstFrom start r first least) (is : sum ≡ f r) (test : less ≡ ltb sum least) where
+    -- what wins over r and, where `first` does, over those before it
+    wins-next : (x : ℕ) → Wins f x r → ((i : ℕ) → Wins f first i → Wins f x i) → (i : ℕ) → start ≤ i → i < r + 1 → Wins f x i
+    wins-next x last before i h k =
+        elim (decLt i r) [
+          | yes l ↦ before i (so-far .wins i h l)
+          | no l ↦ let e : i ≡ r = omega arith in rw e last
+        ]
 
-  module _ {r first least sum : ℕ} {less : Bool} (so-far : FirstBefore r first least) (is : sum ≡ f r) (test : less ≡ ltb sum least) where
     -- the next is less
-    pub first-lowers : less ≡ true → FirstBefore (r + 1) r sum
-    first-lowers e = record {
-      some = omega arith;
-      is-first =
-          rw (first-next r (so-far .some))
-          (better-cases (λ i. r ≡ i) f (firstLeast f (r - 1)) r (λ _. refl)
-          (λ h. absurd (omega (arith, ltb-true sum least (sym test ∙ e), so-far .value, ap f (so-far .is-first)))));
-      value = is;
-    }
+    pub first-lowers : less ≡ true → FirstFrom start (r + 1) r sum
+    first-lowers e =
+        let lower : f r < f first = omega (arith, ltb-true sum least (sym test ∙ e), so-far .value) in
+        record {
+          inside = omega (arith, so-far .inside);
+          wins = wins-next r (omega arith) (λ i w. omega arith);
+          value = is;
+        }
 
     -- the next is not less
-    pub first-stays : less ≡ false → FirstBefore (r + 1) first least
-    first-stays e = record {
-      some = omega arith;
-      is-first =
-          rw (first-next r (so-far .some))
-          (better-cases (λ i. first ≡ i) f (firstLeast f (r - 1)) r
-          (λ h. absurd (omega (arith, ltb-false sum least (sym test ∙ e), so-far .value, ap f (so-far .is-first))))
-          (λ _. so-far .is-first));
-      value = so-far .value;
-    }
+    pub first-stays : less ≡ false → FirstFrom start (r + 1) first least
+    first-stays e =
+        let no-lower : f first ≤ f r = omega (arith, ltb-false sum least (sym test ∙ e), so-far .value) in
+        record {
+          inside = omega (arith, so-far .inside);
+          wins = wins-next first (omega (arith, so-far .inside)) (λ i w. w);
+          value = so-far .value;
+        }
 
-  pub first-ends : {r first least : ℕ} (n : ℕ) → FirstBefore r first least → r ≡ n + 1 → first ≡ firstLeast f n
-  first-ends n so-far e = so-far .is-first ∙ ap (firstLeast f) (omega arith)
+  wins-both : {i j : ℕ} → Wins f i j → Wins f j i → i ≡ j
+  wins-both {i} {j} p q = let same : f i ≡ f j = omega arith in omega (arith, p .1 same, q .1 (sym same))
+
+  -- before the start there is none so small
+  pub first-ends : {start r first least : ℕ} (n : ℕ) → FirstFrom start r first least → r ≡ n + 1
+      → ((i : ℕ) → i < start → f (firstLeast f n) < f i) → first ≡ firstLeast f n
+  first-ends {start} {r} {first} n so-far e above =
+      let last = first-least-within f n in
+      elim (decLt (firstLeast f n) start) [
+        | yes l ↦ absurd (omega (arith, above (firstLeast f n) l))
+        | no l ↦ wins-both (so-far .wins (firstLeast f n) (omega arith) (omega arith)) (first-least-wins f n first (omega (arith, so-far .inside)))
+      ]

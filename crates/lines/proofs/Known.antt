@@ -49,7 +49,7 @@ module _ (w : ℕ) (pay : Bool → ℕ) (children : Bool → ℕ → ℕ) (sibli
   unfolding lineTakes turn better
   known-takes n h = rw (known-side n h true, known-side n h false)
 
-  known-node : (n : ℕ) → n < w → lineNode taken spare (pay true) (pay false) n ≡ nodeBest bit prefer pay children n
+  pub known-node : (n : ℕ) → n < w → lineNode taken spare (pay true) (pay false) n ≡ nodeBest bit prefer pay children n
   unfolding lineNode lineTakes nodeBest
   known-node n h = rw (known-takes n h) (known-side n h (turn bit prefer pay children n))
 
@@ -64,7 +64,7 @@ module _ (w : ℕ) (pay : Bool → ℕ) (children : Bool → ℕ → ℕ) (sibli
   unfolding lineLater
   known-later m h = first-least-same _ _ m (known-split m h) .0
 
-  known-cell : (m : ℕ) → m < w
+  pub known-cell : (m : ℕ) → m < w
       → lineCell taken spare rest (pay true) (pay false) m ≡ cell bit prefer pay children siblings m
   unfolding lineCell cell
   known-cell m h = rw (first-least-same _ _ m (known-split m h) .1)

@@ -71,6 +71,12 @@ module _ (taken spare rest : List ℕ) (member other : ℕ) where
   unfoldable pub lineCell : ℕ → ℕ
   lineCell = cell bit prefer (pay member other) (children taken spare) (λ r. getD rest r 0)
 
+-- the row can have m caches, and of these no more than `most` at or below its first node
+pub record SplitBound (taken spare rest : List ℕ) (member other m most : ℕ) : Type 0 where
+  pub within : most ≤ m
+  pub over : (n : ℕ) → most < n → n ≤ m → cap ≤ lineNode taken spare member other n
+  pub attained : lineCell taken spare rest member other m < cap
+
 -- ---- the same row from the line of its first node, whose entries may be above the cap
 
 pub record RowParts (w : ℕ) (node rest : List ℕ) : Type 0 where

@@ -7,7 +7,7 @@ ghost use lib.ListN.{length, take};
 ghost use lib.Seq.{sets};
 ghost use Rattle.laws.specs.Lists.{range};
 ghost use Rattle.best_rows.specs.Best.{cap};
-ghost use Rattle.lines.specs.Line.{mostWidth, Line, NoneFrom, NodeParts, LineParts, RowParts, lineSide, lineTakes, lineNode, lineSplit, lineLater, lineCell, rowCell, Lowered, emptyCell};
+ghost use Rattle.lines.specs.Line.{mostWidth, Line, NoneFrom, NodeParts, LineParts, RowParts, lineSide, lineTakes, lineNode, lineSplit, lineLater, lineCell, SplitBound, rowCell, Lowered, emptyCell};
 use units::Total;
 
 // The most entries of a line: one for each budget from 0 to the largest.
@@ -191,7 +191,8 @@ fn split(
     node_best(taken, spare, member, other, here).plus(Total(rest[r]))
 }
 
-// How many of a row's m caches are among the later siblings: the least number at which the split is least.
+// How many of a row's m caches are among the later siblings: the least number at which the split is least. At or below the first
+// node there are at most `most`.
 pub fn later(
     taken: &[u64],
     spare: &[u64],
@@ -199,13 +200,15 @@ pub fn later(
     member: Total,
     other: Total,
     m: usize,
+    most: usize,
 ) -> usize
     requires { ⌜ LineParts (m + 1) (now taken) (now spare) (now rest) (member .0) (other .0) ⌝ }
+    requires { ⌜ SplitBound (now taken) (now spare) (now rest) (member .0) (other .0) m most ⌝ }
     ensures { λ r. ⌜ r ≡ lineLater (now (taken .entry)) (now (spare .entry)) (now (rest .entry)) (member .0) (other .0) m ⌝ }
 {
-    let mut first = 0;
-    let mut least = split(taken, spare, rest, member, other, m, 0);
-    let mut r = 1;
+    let mut first = m - most;
+    let mut least = split(taken, spare, rest, member, other, m, first);
+    let mut r = first + 1;
     while r <= m {
         let sum = split(taken, spare, rest, member, other, m, r);
         if sum.is_less(least) {

@@ -1,11 +1,12 @@
 -- The caches of a row, node by node: what each part of it can have, and that the parts together are the row's.
 use mathlib.Core.Path.{_≡_, refl, _∙_}
 use mathlib.Core.Bool.{Bool, true, false, cond}
-use mathlib.Core.List.{List, [], _∷_, _++_}
+use mathlib.Core.List.{List, [], _++_}
 use Prim.Native.Nat.{ℕ, zero, suc, _+_, _-_, _≤_, _<_}
 use native.Mathlib.Omega.{arith}
 use lib.ListN.{length, length-append}
 use lib.Seq.{sets}
+use Rattle.laws.proofs.Lists.{none-of-length}
 use Rattle.laws.proofs.Stores.{sets-append}
 use Rattle.model.specs.File.{Tree, Demand}
 use Rattle.best_rows.specs.Rows.{ifMember}
@@ -24,11 +25,7 @@ module _ (t : Tree) (d : Demand) where
 
   -- no caches are no nodes
   pub row-without : (x c : ℕ) → bestAt t d x c 0 < cap → bestNodes t d x c 0 ≡ []
-  row-without x c h = none (bestNodes t d x c 0) (length-best-nodes t d x c 0 h)
-    where
-      none : (l : List ℕ) → length l ≡ 0 → l ≡ []
-      none [] e = refl
-      none (y ∷ l) e = absurd (omega arith)
+  row-without x c h = none-of-length (bestNodes t d x c 0) (length-best-nodes t d x c 0 h)
 
   module _ (x c : ℕ) where
     module _ (n : ℕ) (h : nodeBestAt t d x c n < cap) where
@@ -48,6 +45,9 @@ module _ (t : Tree) (d : Demand) where
           length-member : (u : Bool) → length (ifMember u x) ≡ one x u
           length-member true = refl
           length-member false = refl
+
+    pub node-without : nodeBestAt t d x c 0 < cap → nodesFrom t d x c 0 ≡ []
+    node-without h = none-of-length (nodesFrom t d x c 0) (length-nodes-from 0 h)
 
     module _ (m : ℕ) (some : 0 < x) (fits : x < t .count) (h : bestAt t d x c m < cap) where
       abbrev later : ℕ

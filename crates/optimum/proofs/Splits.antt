@@ -7,16 +7,18 @@ use native.Mathlib.Omega.{arith}
 use Rattle.model.specs.File.{treeOf, demandOf}
 use Rattle.model.specs.Bill.{price}
 use Rattle.fields.specs.declared.Tree as code
-use Rattle.best_rows.specs.Best.{nodeBest, split}
+use Rattle.best_rows.specs.Best.{nodeBest, split, cell}
 use Rattle.best_rows.specs.TreeRows.{nextSibling}
 use Rattle.best_rows.specs.BestAt.{site, bestAt, childrenAt, nodeBestAt, takesNode, splitAt, laterAt}
-use Rattle.node_words.specs.Words.{wordOf, depthWord, HasNode}
-use Rattle.lines.specs.Line.{LineParts, NodeParts, lineTakes, lineLater}
+use Rattle.best_rows.proofs.Cover.{next-sibling-is}
+use Rattle.best_rows.proofs.Table.{node-best-over, later-at-attains}
+use Rattle.node_words.specs.Words.{wordOf, depthWord, siblingWord, HasNode}
+use Rattle.lines.specs.Line.{LineParts, NodeParts, SplitBound, lineTakes, lineLater}
 use Rattle.lines.proofs.Fewer.{line-parts-fewer, parts-fewer}
-use Rattle.lines.proofs.Known.{Known, known-later, known-takes}
+use Rattle.lines.proofs.Known.{Known, known-node, known-cell, known-later, known-takes}
 use Rattle.table.specs.Table.{width, Served}
 use Rattle.table.proofs.Lines.{parts-read}
-use Rattle.optimum.specs.Walk.{RowToSplit}
+use Rattle.optimum.specs.Walk.{MostBelow, RowToSplit}
 use Rattle.optimum.proofs.Served.{served-from-above}
 use Rattle.optimum.proofs.Nodes.{later-within}
 use Rattle.optimum.proofs.Walk.{table-sound, table-has-node, table-budget}
@@ -44,6 +46,27 @@ module _ {file : List ℕ} {sizes : code.Tree} {s : List ℕ} {x server m : ℕ}
     split-parts =
         line-parts-fewer (m + 1) (width sizes) (omega (arith, split-within))
         (parts-read (treeOf file) (demandOf file) (width sizes) (table-sound (r .table)) at known refl p q)
+
+    -- at or below x there are no more than the nodes from x up to its next sibling
+    pub split-bound : {sibling most : ℕ} → sibling ≡ wordOf s x siblingWord → MostBelow x sibling m most
+        → SplitBound taken spare rest member other m most
+    unfolding laterAt splitAt nodeBestAt nodeBest split cell
+    split-bound f b =
+        let t = treeOf file in
+        let d = demandOf file in
+        let next = f ∙ r .table .ready .words .sibling x (r .site) (r .row .served .node) in
+        record {
+          within = b .within;
+          over =
+              λ n h k.
+              let fewer = b .nodes (omega arith) in
+              let is = next-sibling-is t (table-sound (r .table) .preorder) x (r .site) (r .row .served .node) (omega arith) in
+              rw (p, q, known-node (width sizes) (site t d x .pay server) (childrenAt t d x server) (bestAt t d (nextSibling t x) server) taken spare rest known n (omega (arith, split-within)))
+              (node-best-over t d x server n (omega arith));
+          attained =
+              rw (p, q, known-cell (width sizes) (site t d x .pay server) (childrenAt t d x server) (bestAt t d (nextSibling t x) server) taken spare rest known m split-within)
+              (omega (arith, later-at-attains t d x (r .site) (r .row .served .node) server m (r .row .attained), r .row .attained));
+        }
 
     module _ {later : ℕ} (e : later ≡ lineLater taken spare rest member other m) where
       -- what is read is the split, and then the node's own choice

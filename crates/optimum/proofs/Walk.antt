@@ -21,7 +21,7 @@ use Rattle.table.specs.Table.{Table}
 use Rattle.table.proofs.Room.{room-sound, room-count, ready-node}
 use Rattle.optimum.specs.Walk.{nodesFrom, RowHas, RowToSplit, RowToWalk, NodeToWalk, Walked}
 use Rattle.optimum.proofs.Served.{children-served, children-served-above, siblings-served}
-use Rattle.optimum.proofs.Nodes.{row-has-node, row-without, children-attained, later-within, row-attained, row-stores}
+use Rattle.optimum.proofs.Nodes.{row-has-node, row-without, node-without, children-attained, later-within, row-attained, row-stores}
 
 -- ---- what a table says
 
@@ -142,7 +142,7 @@ module _ {file : List ℕ} {sizes : code.Tree} {s : List ℕ} {server first coun
       siblings-smaller f = rw (sibling-is f) (omega (arith, row-shrinks))
 
       module _ {later : ℕ} (e : later ≡ laterAt (treeOf file) (demandOf file) x server m) where
-        pub walked-later : later ≤ m
+        walked-later : later ≤ m
         walked-later = rw e (later-within (treeOf file) (demandOf file) x server m walked-site (row .served .node) (row .attained))
 
         both-attained : (nodeBestAt (treeOf file) (demandOf file) x server (m - later) < cap)
@@ -184,3 +184,12 @@ module _ {file : List ℕ} {sizes : code.Tree} {s : List ℕ} {server first coun
               long = long ∙ w .long;
               stores = rw (k, g, e) (sym (row-stores t d x server m walked-site (row .served .node) (row .attained) new at) ∙ w .stores);
             })
+
+        -- all are among the later siblings
+        pub walk-passes : {next : ℕ} → next ≡ wordOf s x siblingWord → m ≤ later
+            → Walked file sizes s server first count start old next m at new
+        walk-passes f all =
+            let same : later ≡ m = omega (arith, walked-later) in
+            let none : m - later ≡ 0 = omega arith in
+            let here = node-without (treeOf file) (demandOf file) x server (rw none at (both-attained .0)) in
+            rw same at (walk-turns {end = at} {l = new} f (omega arith) (rw (none, here)) refl)

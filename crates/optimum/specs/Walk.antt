@@ -43,6 +43,11 @@ module _ (file : List ℕ) (x server : ℕ) where
     pub within : n ≤ budgetOf file
     pub attained : nodeBestAt (treeOf file) (demandOf file) x server n < cap
 
+-- of m caches no more than `most` can be at or below x: all, or as many as there are nodes from x up to its next sibling
+pub record MostBelow (x sibling m most : ℕ) : Type 0 where
+  pub within : most ≤ m
+  pub nodes : most < m → (x < sibling) × (sibling - x ≤ most)
+
 -- ---- what the walk asks for: the table, the caches, and room for them in the rows of the answer
 
 pub record RowToSplit (file : List ℕ) (sizes : code.Tree) (s : List ℕ) (x server m : ℕ) : Type 0 where

@@ -15,7 +15,7 @@ ghost use Rattle.best_rows.specs.Least.{better};
 ghost use Rattle.best_rows.specs.TreeRows.{firstChild};
 ghost use Rattle.best_rows.specs.BestAt.{bestNodes, leastCount, takesNode, laterAt};
 ghost use Rattle.table.specs.Table.{TableRoom, Table};
-ghost use Rattle.optimum.specs.Walk.{nodesFrom, RowToSplit, RowToWalk, NodeToWalk};
+ghost use Rattle.optimum.specs.Walk.{nodesFrom, MostBelow, RowToSplit, RowToWalk, NodeToWalk};
 ghost use Rattle.optimum.specs.Budgets.{planRow, Budget, Buffers};
 use tree_file::Checked;
 use tree_file::Ruling;
@@ -29,6 +29,17 @@ struct Split {
 
 // ---- the walk through the table
 
+// Of m caches the most that can be at or below x: if x has a next sibling, as many as there are nodes from x up to it.
+fn most_below(x: usize, sibling: usize, m: usize) -> usize
+    ensures { λ r. ⌜ MostBelow x sibling m r ⌝ }
+{
+    if sibling <= x {
+        return m;
+    }
+    let nodes = sibling - x;
+    if nodes < m { nodes } else { m }
+}
+
 // How the m caches of the row that begins with x split.
 fn split_of(file: &[u8], tree: fields::Tree, s: &[u64], x: usize, server: usize, m: usize) -> Split
     requires { ⌜ RowToSplit (now file) tree (now s) x server m ⌝ }
@@ -39,10 +50,12 @@ fn split_of(file: &[u8], tree: fields::Tree, s: &[u64], x: usize, server: usize,
     let child = node_words::child_of(s, x);
     let taken = table::line(s, tree, child, node_words::depth_word(s, x));
     let spare = table::line(s, tree, child, above);
-    let rest = table::line(s, tree, node_words::sibling_of(s, x), above);
+    let sibling = node_words::sibling_of(s, x);
+    let rest = table::line(s, tree, sibling, above);
     let member = table::pays(file, s, x, x);
     let other = table::pays(file, s, x, server);
-    let later = lines::later(taken, spare, rest, member, other, m);
+    let most = most_below(x, sibling, m);
+    let later = lines::later(taken, spare, rest, member, other, m, most);
     Split {
         later,
         member: lines::takes(taken, spare, member, other, m - later),
@@ -94,9 +107,11 @@ fn walk_row(
     while 0 < m {
         let split = split_of(file, tree, s, x, server, m);
         let later = split.later;
-        at = walk_node(file, tree, s, rows, x, server, m - later, split.member, at);
+        if later < m {
+            at = walk_node(file, tree, s, rows, x, server, m - later, split.member, at);
+            m = later;
+        }
         x = node_words::sibling_of(s, x);
-        m = later;
     }
     at
 }

@@ -3,32 +3,39 @@ use mathlib.Core.Logic.{⊎-elim}
 use Prim.Native.Nat.{_+_, _-_, _≤_}
 use native.Mathlib.Omega.{arith}
 use borrow.Author.Needs.{needs}
-use Rattle.lines.specs.Line.{lineSplit, lineLater}
-use Rattle.lines.proofs.First.{FirstBefore, first-begins, first-lowers, first-stays, first-ends}
+use Rattle.best_rows.specs.Best.{split, cell}
+use Rattle.lines.specs.Line.{lineNode, lineSplit, lineLater, lineCell}
+use Rattle.lines.proofs.First.{FirstFrom, first-begins, first-lowers, first-stays, first-ends}
 use Rattle.lines.proofs.later.Statement.{statement}
 use Rattle.lines.proofs.later.Tie as tie
 
 abbrev Inv-loop : tie.InvT-loop
-Inv-loop taken spare rest member other m first₀ least₀ r₀ first least r =
-    (r ≤ m + 1) × FirstBefore (lineSplit taken spare rest (member .0) (other .0) m) r first (least .0)
+Inv-loop taken spare rest member other m most first₀ least₀ r₀ first least r =
+    (r ≤ m + 1) × FirstFrom (lineSplit taken spare rest (member .0) (other .0) m) (m - most) r first (least .0)
 
 abbrev μ-loop : tie.MeasureT-loop
-μ-loop taken spare rest member other m first₀ least₀ r₀ first least r = m + 1 - r
+μ-loop taken spare rest member other m most first₀ least₀ r₀ first least r = m + 1 - r
+
+sub-first : tie.Need-sub-first Inv-loop μ-loop
+sub-first c = search needs
 
 split-requires : tie.Need-split-requires Inv-loop μ-loop
-split-requires c κs = (c .before .before .before .pre, omega arith)
+split-requires c κs = (c .before .before .before .pre .0, omega arith)
+
+add-r : tie.Need-add-r Inv-loop μ-loop
+add-r c = search needs
 
 loop-holds : tie.Need-loop-holds Inv-loop μ-loop
 loop-holds c = (omega arith, first-begins _ (c .split .ensures))
 
 split-requires-2 : tie.Need-split-requires-2 Inv-loop μ-loop
-split-requires-2 c κs = (c .before .before .before .before .before .before .pre, omega arith)
+split-requires-2 c κs = (c .before .before .before .before .before .before .pre .0, omega arith)
 
 is-less-requires : tie.Need-is-less-requires Inv-loop μ-loop
 is-less-requires c κs = search needs
 
-add-r : tie.Need-add-r Inv-loop μ-loop
-add-r c = search needs
+add-r-2 : tie.Need-add-r-2 Inv-loop μ-loop
+add-r-2 c = search needs
 
 loop-less : tie.Need-loop-less Inv-loop μ-loop
 loop-less c = search needs
@@ -44,8 +51,12 @@ loop-again c =
     )
 
 returns : tie.Need-returns Inv-loop μ-loop
-unfolding lineLater
-returns c = first-ends _ _ (c .before .loop .inv .1) (omega arith)
+unfolding lineLater lineNode lineCell split cell
+returns c =
+    let st = c .before .before .before .before .before .before in
+    let bound = st .pre .1 in
+    first-ends _ (st .args .m) (c .before .loop .inv .1) (omega arith)
+    (λ i h. omega (arith, bound .over (st .args .m - i) (omega arith) (omega arith), bound .attained))
 
 pub later-spec : {M : Type 1} → statement M
 later-spec =
@@ -53,11 +64,13 @@ later-spec =
     (tie.spec
     Inv-loop
     μ-loop
+    sub-first
     split-requires
+    add-r
     loop-holds
     split-requires-2
     is-less-requires
-    add-r
+    add-r-2
     loop-less
     loop-again
     returns)

@@ -1,5 +1,6 @@
 -- `walk_node` and `walk_row`, which call each other, keep their contracts.
 use mathlib.Core.Path.{_∙_}
+use mathlib.Core.Logic.{⊎-elim}
 use Prim.Native.Nat.{ℕ, _+_, _*_, _<_}
 use native.Mathlib.Omega.{arith}
 use lib.ListN.{length-set}
@@ -11,7 +12,7 @@ use Rattle.best_rows.specs.Rows.{rowSize}
 use Rattle.node_words.proofs.child_of.Reads as child-of-reads
 use Rattle.node_words.proofs.sibling_of.Reads as sibling-of-reads
 use Rattle.optimum.specs.Walk.{Walked}
-use Rattle.optimum.proofs.Walk.{node-stands, node-small, child-row, member-some, member-row, member-stores, other-row, other-stores, walk-begins, walk-ends, walked-row, walked-stands, children-smaller, siblings-smaller, walked-later, walked-node, walk-turns}
+use Rattle.optimum.proofs.Walk.{node-stands, node-small, child-row, member-some, member-row, member-stores, other-row, other-stores, walk-begins, walk-ends, walked-row, walked-stands, children-smaller, siblings-smaller, walked-node, walk-turns, walk-passes}
 use Rattle.optimum.proofs.+walk_node+walk_row.{statement}
 use Rattle.optimum.proofs.+walk_node+walk_row.Tie.{close}
 use Rattle.optimum.proofs.walk_node.Reads as walk-node
@@ -184,7 +185,7 @@ walk-row-sub-walk-node : (t : ℕ) → walk-row-lts.Need-sub-walk-node (
   sibling-of-reads.Asked,
   sibling-of-reads.Learnt,
 ) (walk-row-at t) walk-row.Post walk-row-Inv-loop walk-row-μ-loop
-walk-row-sub-walk-node t c = walked-later (c .before .before .before .loop .inv) (c .before .before .loop-test .taken) (c .before .split-of .ensures .0)
+walk-row-sub-walk-node t c = omega arith
 
 walk-row-walk-node-requires : (t : ℕ) → walk-row-lts.Need-walk-node-requires (
   split-of-reads.Asked,
@@ -195,8 +196,8 @@ walk-row-walk-node-requires : (t : ℕ) → walk-row-lts.Need-walk-node-requires
   sibling-of-reads.Learnt,
 ) (walk-row-at t) walk-row.Post walk-row-Inv-loop walk-row-μ-loop
 walk-row-walk-node-requires t c κs = (
-  omega (arith, c .before .before .before .before .before .before .before .pre .0, children-smaller (c .before .before .before .loop .inv) (c .before .before .loop-test .taken)),
-  walked-node (c .before .before .before .loop .inv) (c .before .before .loop-test .taken) (c .before .split-of .ensures .0) (c .before .split-of .ensures .1),
+  omega (arith, c .before .before .before .before .before .before .before .before .pre .0, children-smaller (c .before .before .before .before .loop .inv) (c .before .before .before .loop-test .taken)),
+  walked-node (c .before .before .before .before .loop .inv) (c .before .before .before .loop-test .taken) (c .before .before .split-of .ensures .0) (c .before .before .split-of .ensures .1),
 )
 
 walk-row-sibling-of-requires : (t : ℕ) → walk-row-lts.Need-sibling-of-requires (
@@ -207,7 +208,7 @@ walk-row-sibling-of-requires : (t : ℕ) → walk-row-lts.Need-sibling-of-requir
   sibling-of-reads.Asked,
   sibling-of-reads.Learnt,
 ) (walk-row-at t) walk-row.Post walk-row-Inv-loop walk-row-μ-loop
-walk-row-sibling-of-requires t c κs = walked-stands (c .before .before .before .before .before .before .loop .inv) (c .before .before .before .before .before .loop-test .taken)
+walk-row-sibling-of-requires t c κs = walked-stands (c .before .before .before .loop .inv) (c .before .before .loop-test .taken)
 
 walk-row-loop-less : (t : ℕ) → walk-row-lts.Need-loop-less (
   split-of-reads.Asked,
@@ -217,7 +218,7 @@ walk-row-loop-less : (t : ℕ) → walk-row-lts.Need-loop-less (
   sibling-of-reads.Asked,
   sibling-of-reads.Learnt,
 ) (walk-row-at t) walk-row.Post walk-row-Inv-loop walk-row-μ-loop
-walk-row-loop-less t c = siblings-smaller (c .before .before .before .before .before .before .before .loop .inv) (c .before .before .before .before .before .before .loop-test .taken) (c .sibling-of .ensures)
+walk-row-loop-less t c = siblings-smaller (c .before .before .before .before .loop .inv) (c .before .before .before .loop-test .taken) (c .sibling-of .ensures)
 
 walk-row-loop-again : (t : ℕ) → walk-row-lts.Need-loop-again (
   split-of-reads.Asked,
@@ -227,7 +228,13 @@ walk-row-loop-again : (t : ℕ) → walk-row-lts.Need-loop-again (
   sibling-of-reads.Asked,
   sibling-of-reads.Learnt,
 ) (walk-row-at t) walk-row.Post walk-row-Inv-loop walk-row-μ-loop
-walk-row-loop-again t c = walk-turns (c .before .before .before .before .before .before .before .loop .inv) (c .before .before .before .before .before .before .loop-test .taken) (c .before .before .before .before .before .split-of .ensures .0) (c .sibling-of .ensures) (c .before .before .before .walk-node .ensures .0) (c .before .before .before .walk-node .ensures .1) (c .before .before .before .walk-node .kept .1 .1 .1 .0)
+walk-row-loop-again t c =
+    let l = c .before .before .before .before .loop .inv in
+    let some = c .before .before .before .loop-test .taken in
+    let split = c .before .before .split-of .ensures .0 in
+    let next = c .sibling-of .ensures in
+    ⊎-elim (λ w. rw (w .5, w .6, w .7) (walk-turns l some split next (w .2 .ensures .0) (w .2 .ensures .1) (w .2 .kept .1 .1 .1 .0)))
+    (λ w. rw (w .1, w .2, w .3) (walk-passes l some split next (w .0 .left))) (c .before .if1 .came)
 
 walk-row-same-length : (t : ℕ) → walk-row-lts.Need-same-length (
   split-of-reads.Asked,

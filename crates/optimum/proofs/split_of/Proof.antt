@@ -1,12 +1,13 @@
 -- `split_of`: how the m caches of the row that begins with x split.
 use native.Mathlib.Omega.{arith}
+use borrow.Author.Needs.{needs}
 use Rattle.model.specs.File.{treeOf, demandOf}
 use Rattle.best_rows.specs.BestAt.{bestAt, childrenAt}
 use Rattle.best_rows.specs.TreeRows.{nextSibling}
 use Rattle.lines.proofs.Known.{Known}
 use Rattle.table.specs.Table.{width, Served}
 use Rattle.table.proofs.Reading.{served-room, children-place, own-place, siblings-place, served-itself, served-above-it, lines-known}
-use Rattle.optimum.proofs.Splits.{server-stands, split-served, split-parts, split-later, split-fits, split-node-parts, split-member}
+use Rattle.optimum.proofs.Splits.{server-stands, split-served, split-parts, split-bound, split-later, split-fits, split-node-parts, split-member}
 use Rattle.optimum.proofs.split_of.Statement.{statement}
 use Rattle.optimum.proofs.split_of.Tie as tie
 
@@ -51,20 +52,32 @@ pays-requires c κs = served-itself (c .before .before .before .before .before .
 pays-requires-2 : tie.Need-pays-requires-2
 pays-requires-2 c κs = served-above-it (c .before .before .before .before .before .before .before .before .before .before .pre .table) (served (c .before .before .before .before .before .before .before))
 
+most-below-requires : tie.Need-most-below-requires
+most-below-requires c κs = search needs
+
 later-requires : tie.Need-later-requires
-later-requires c κs = split-parts (c .before .before .before .before .before .before .before .before .before .before .before .pre) (served (c .before .before .before .before .before .before .before .before)) (known (c .before .before)) (c .before .pays .ensures) (c .pays2 .ensures)
+later-requires c κs =
+    let p = c .before in (
+      split-parts (p .before .before .before .before .before .before .before .before .before .before .before .pre) (served (p .before .before .before .before .before .before .before .before)) (known (p .before .before)) (p .before .pays .ensures) (p .pays2 .ensures),
+      split-bound (p .before .before .before .before .before .before .before .before .before .before .before .pre) (served (p .before .before .before .before .before .before .before .before)) (known (p .before .before)) (p .before .pays .ensures) (p .pays2 .ensures) (p .before .before .before .sibling-of .ensures) (c .most-below .ensures),
+    )
 
 sub-takes : tie.Need-sub-takes
-sub-takes c = split-fits (c .before .before .before .before .before .before .before .before .before .before .before .before .pre) (served (c .before .before .before .before .before .before .before .before .before)) (known (c .before .before .before)) (c .before .before .pays .ensures) (c .before .pays2 .ensures) (c .later .ensures)
+sub-takes c =
+    let p = c .before .before in
+    split-fits (p .before .before .before .before .before .before .before .before .before .before .before .pre) (served (p .before .before .before .before .before .before .before .before)) (known (p .before .before)) (p .before .pays .ensures) (p .pays2 .ensures) (c .later .ensures)
 
 takes-requires : tie.Need-takes-requires
-takes-requires c κs = split-node-parts (c .before .before .before .before .before .before .before .before .before .before .before .before .pre) (served (c .before .before .before .before .before .before .before .before .before)) (known (c .before .before .before)) (c .before .before .pays .ensures) (c .before .pays2 .ensures) (c .later .ensures)
+takes-requires c κs =
+    let p = c .before .before in
+    split-node-parts (p .before .before .before .before .before .before .before .before .before .before .before .pre) (served (p .before .before .before .before .before .before .before .before)) (known (p .before .before)) (p .before .pays .ensures) (p .pays2 .ensures) (c .later .ensures)
 
 returns : tie.Need-returns
-returns c = (
-  split-later (c .before .before .before .before .before .before .before .before .before .before .before .before .before .pre) (served (c .before .before .before .before .before .before .before .before .before .before)) (known (c .before .before .before .before)) (c .before .before .before .pays .ensures) (c .before .before .pays2 .ensures) (c .before .later .ensures),
-  split-member (c .before .before .before .before .before .before .before .before .before .before .before .before .before .pre) (served (c .before .before .before .before .before .before .before .before .before .before)) (known (c .before .before .before .before)) (c .before .before .before .pays .ensures) (c .before .before .pays2 .ensures) (c .before .later .ensures) (c .takes .ensures),
-)
+returns c =
+    let p = c .before .before .before in (
+      split-later (p .before .before .before .before .before .before .before .before .before .before .before .pre) (served (p .before .before .before .before .before .before .before .before)) (known (p .before .before)) (p .before .pays .ensures) (p .pays2 .ensures) (c .before .later .ensures),
+      split-member (p .before .before .before .before .before .before .before .before .before .before .before .pre) (served (p .before .before .before .before .before .before .before .before)) (known (p .before .before)) (p .before .pays .ensures) (p .pays2 .ensures) (c .before .later .ensures) (c .takes .ensures),
+    )
 
 pub split-of-spec : {M : Type 1} → statement M
 split-of-spec =
@@ -79,6 +92,7 @@ split-of-spec =
     line-requires-3
     pays-requires
     pays-requires-2
+    most-below-requires
     later-requires
     sub-takes
     takes-requires
