@@ -1,4 +1,4 @@
--- Where records stand in preorder, the server's row holds every node from 1 on, in order.
+-- Where records stand in preorder, the server's row holds every node from 1 on, in order, and no row has more nodes than the tree.
 use mathlib.Core.Path.{_≡_, refl, sym, ap, _∙_}
 use mathlib.Core.Bool.{true, false}
 use mathlib.Core.List.{List, [], _∷_}
@@ -27,6 +27,11 @@ after-row (node v a b) l i (suc n) e =
     let children = after-row a (rowNodes b l) (suc i) n (cc e) in
     let first : suc i + rowSize a + rowSize b ≡ i + (1 + rowSize a + rowSize b) = omega arith in
     rw (← first) (after-row b l (suc i + rowSize a) (length (rowNodes b l)) children)
+
+length-row-nodes : (r : Row) (l : List ℕ) → length (rowNodes r l) ≡ rowSize r + length l
+unfolding rowNodes rowSize
+length-row-nodes empty l = omega arith
+length-row-nodes (node v a b) l = omega (arith, length-row-nodes a (rowNodes b l), length-row-nodes b l)
 
 module _ (t : Tree) where
   -- the nodes in the rows of the children of a list's nodes, among the n nodes after i
@@ -127,3 +132,18 @@ module _ (t : Tree) where
         let along = along-first n x p in
         let nodes = rw (route-up t pre i, along .1, ← (row-at-first t n x p (omega arith)), row-at-node t (nextSibling t x) some stands) at (rows-cover n x) in
         rw (row-at-first t n x x (omega arith)) (cc (after-row (rowAfter t n x x) _ (suc x) n nodes))
+
+    -- ---- how many nodes a row has
+
+    row-on-route : (n i v : ℕ) → rowSize (rowAfter t n i v) ≤ length (rowsAlong n i (route t v))
+    row-on-route n i v = let along = along-first n i v in rw (along .1, length-row-nodes (rowAfter t n i v) (along .0)) (omega arith)
+
+    -- a row has fewer nodes than the tree
+    pub row-size-within : (v : ℕ) → v < t .count → rowSize (rowAt t v) < t .count
+    unfolding rowAt rowSize rowsAlong
+    row-size-within zero h = omega arith
+    row-size-within (suc i) h =
+        let v = suc i in
+        let m = nodesAfter t v in
+        let all = rw (route-up t pre i, length-row-nodes (rowAfter t m v v) (rowsAlong m v (route t (t .parent v))), length-range (suc v) m) at (ap length (rows-cover m v)) in
+        omega (arith, all, row-on-route m v (t .parent v))

@@ -53,6 +53,10 @@ module _ (t : Tree) (d : Demand) where
 
   -- ---- no node
 
+  pub row-size-none : rowSize (rowAt t 0) ≡ 0
+  unfolding rowSize
+  row-size-none = rw (row-at-none t)
+
   pub best-at-none-over : (c m : ℕ) → bestAt t d 0 c (suc m) ≡ cap
   unfolding bestAt best
   best-at-none-over c m = rw (row-at-none t)

@@ -1,14 +1,13 @@
--- Fronts of lists that hold a rule's values f 0, f 1, .., and loops that write or copy them.
+-- Fronts of lists that hold a rule's values f 0, f 1, .., and a loop that copies entries.
 use mathlib.Core.Path.{_≡_, refl, sym, ap, _∙_}
 use mathlib.Core.List.{List, [], _∷_, append-nil, map}
 use Prim.Native.Nat.{ℕ, zero, suc, _+_, _≤_, _<_}
 use native.Mathlib.Decide.{decLt}
 use native.Mathlib.Omega.{arith}
 use lib.ListN.{length, take, getD, set}
-use lib.Seq.{sets, getD-take, getD-set-same, getD-set-other}
+use lib.Seq.{sets, getD-set-same, getD-set-other}
 use Rattle.laws.specs.Lists.{range}
-use Rattle.laws.proofs.Lists.{length-of-range, entry-of-range, map-of-range-shift}
-use Rattle.laws.proofs.Stores.{part-same}
+use Rattle.laws.proofs.Lists.{entry-of-range, map-of-range-shift}
 
 -- two rules that agree on a range
 pub same-on-range : (f g : ℕ → ℕ) (i n : ℕ) → ((j : ℕ) → i ≤ j → j < i + n → f j ≡ g j) → map f (range i n) ≡ map g (range i n)
@@ -29,11 +28,6 @@ pub entry-of-range-alone : (f : ℕ → ℕ) (n j : ℕ) → j < n → getD (map
 entry-of-range-alone f n j h =
     ap (λ r. getD r j 0) (sym (append-nil (map f (range 0 n)))) ∙ entry-of-range f 0 n j [] h ∙ ap f (omega arith)
 
--- an entry of a list whose front is known
-pub entry-of-front : (f : ℕ → ℕ) (n : ℕ) (l : List ℕ) (j : ℕ) → take n l ≡ map f (range 0 n) → j < n → getD l j 0 ≡ f j
-entry-of-front f n l j e h =
-    sym (getD-take n l j 0 h) ∙ ap (λ r. getD r j 0) e ∙ entry-of-range-alone f n j h
-
 -- one entry more stored after the first n
 pub entries-next : (f : ℕ → ℕ) (l : List ℕ) (n x : ℕ) → ((j : ℕ) → j < n → getD l j 0 ≡ f j) → n < length l → x ≡ f n
     → (j : ℕ) → j < n + 1 → getD (set l n x) j 0 ≡ f j
@@ -43,16 +37,7 @@ entries-next f l n x k h e j b =
       | no p ↦ let last : j ≡ n = omega arith in rw last (getD-set-same l n x 0 h ∙ e)
     ]
 
--- ---- a loop that wrote f 0, f 1, ..: where it ends
-
--- from index 0 on
-pub loop-wrote-front : (l : List ℕ) (f : ℕ → ℕ) (j n : ℕ) {s : List ℕ} → s ≡ sets l 0 (map f (range 0 j)) → j ≡ n → n ≤ length l
-    → take n s ≡ map f (range 0 n)
-loop-wrote-front l f j n hs hj hn =
-    ap (take n) (hs ∙ ap (λ k. sets l 0 (map f (range 0 k))) hj)
-    ∙ part-same l 0 (map f (range 0 n)) n (length-of-range f 0 n) (omega arith)
-
--- the entries of another list
+-- a loop that copied the entries of another list: where it ends
 pub loop-copied-front : (l : List ℕ) (i : ℕ) (xs : List ℕ) (j n : ℕ) {s : List ℕ}
     → s ≡ sets l i (map (λ k. getD xs k 0) (range 0 j)) → j ≡ n → n ≤ length xs → s ≡ sets l i (take n xs)
 loop-copied-front l i xs j n hs hj hn =

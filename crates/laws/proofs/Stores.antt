@@ -6,7 +6,7 @@ use native.Mathlib.Nat.{add-suc, suc-add, zero-add, add-zero, suc-mul, zero-mul}
 use native.Mathlib.Numerals.{add-one}
 use native.Mathlib.Omega.{arith}
 use lib.ListN.{length, length-append, take, drop, set, getD, length-drop}
-use lib.Seq.{take-suc, getD-drop, drop-append-add, sets, sets-eq, drop-set-lt, take-set-le, take-at, drop-at, length-take-le}
+use lib.Seq.{take-suc, getD-drop, getD-set-other, drop-append-add, sets, sets-eq, drop-set-lt, take-set-le, take-at, drop-at, length-take-le}
 use Rattle.laws.specs.Lists.{range, part}
 use Rattle.laws.proofs.Lists.{length-of-range, range-snoc, map-append}
 
@@ -63,6 +63,11 @@ drop-sets n l i (a ∷ xs) h = drop-sets n (set l i a) (suc i) xs (omega arith) 
 pub take-sets : (n : ℕ) (l : List ℕ) (i : ℕ) (xs : List ℕ) → n ≤ i → take n (sets l i xs) ≡ take n l
 take-sets n l i [] h = refl
 take-sets n l i (a ∷ xs) h = take-sets n (set l i a) (suc i) xs (omega arith) ∙ take-set-le n l i a h
+
+-- an entry after a run
+pub entry-after : (l : List ℕ) (i : ℕ) (xs : List ℕ) (j : ℕ) → i + length xs ≤ j → getD (sets l i xs) j 0 ≡ getD l j 0
+entry-after l i [] j h = refl
+entry-after l i (a ∷ xs) j h = entry-after (set l i a) (suc i) xs j (omega arith) ∙ getD-set-other l i j a 0 (λ e. omega arith)
 
 -- a part after a run, before it, and the run itself
 pub part-after : (l : List ℕ) (i : ℕ) (xs : List ℕ) (p w : ℕ) → i + length xs ≤ p → part (sets l i xs) p w ≡ part l p w

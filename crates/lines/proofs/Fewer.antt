@@ -5,7 +5,7 @@ use native.Mathlib.Omega.{arith}
 use Rattle.lines.specs.Line.{Line, NodeParts, LineParts}
 
 module _ (m w : ℕ) where
-  pub line-fewer : {most : ℕ} {l : List ℕ} → m ≤ w → Line w most l → Line m most l
+  line-fewer : {most : ℕ} {l : List ℕ} → m ≤ w → Line w most l → Line m most l
   line-fewer h l = record { long = omega (arith, l .long); within = λ n k. l .within n (omega arith) }
 
   pub parts-fewer : {taken spare : List ℕ} {member other : ℕ} → m ≤ w

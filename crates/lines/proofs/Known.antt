@@ -8,11 +8,12 @@ use native.Mathlib.Omega.{arith}
 use Rattle.laws.specs.Lists.{range, bit}
 use Rattle.laws.proofs.Lists.{length-of-range}
 use Rattle.laws.proofs.FrontValues.{same-on-range, entry-of-range-alone}
+use Rattle.model.specs.File.{mostNodes}
 use Rattle.best_rows.specs.Least.{better, firstLeast}
 use Rattle.best_rows.specs.Rows.{Site, empty}
 use Rattle.best_rows.specs.Best.{cap, side, turn, nodeBest, split, cell, best}
 use Rattle.best_rows.specs.BestAt.{prefer}
-use Rattle.lines.specs.Line.{Line, LineParts, lineSide, lineTakes, lineNode, lineSplit, lineLater, lineCell, emptyCell}
+use Rattle.lines.specs.Line.{Line, LineParts, RowBounds, lineSide, lineTakes, lineNode, lineSplit, lineLater, lineCell, emptyCell}
 use Rattle.lines.proofs.First.{first-least-same}
 
 -- the lines hold what the children cost, by whether the node is a cache, and what the later siblings cost
@@ -38,6 +39,16 @@ module _ (w : ℕ) (pay : Bool → ℕ) (children : Bool → ℕ → ℕ) (sibli
       pays = (p true, p false);
     };
     rest-line = line-of-rule siblings w rest (known .rest-is) s;
+  }
+
+  -- rows of `below` and `after` nodes, where more caches than nodes cannot be had
+  pub known-bounds : {below after : ℕ} → (below < mostNodes) × (after < mostNodes) → ((u : Bool) (n : ℕ) → below < n → children u n ≡ cap)
+      → ((n : ℕ) → after < n → siblings n ≡ cap) → RowBounds w taken spare rest below after
+  known-bounds f c s = record {
+    few = f;
+    taken-none = λ n h k. rw (known .taken-is, entry-of-range-alone (children true) w n k) (omega (arith, c true n (omega arith)));
+    spare-none = λ n h k. rw (known .spare-is, entry-of-range-alone (children false) w n k) (omega (arith, c false n (omega arith)));
+    rest-none = λ n h k. rw (known .rest-is, entry-of-range-alone siblings w n k) (omega (arith, s n (omega arith)));
   }
 
   known-side : (n : ℕ) → n < w → (u : Bool) → lineSide taken spare (pay true) (pay false) n u ≡ side bit pay children n u

@@ -13,7 +13,7 @@ use Rattle.best_rows.specs.Least.{better}
 use Rattle.best_rows.specs.Best.{cap, turn, nodeBest}
 use Rattle.best_rows.proofs.Least.{better-min}
 use Rattle.best_rows.proofs.Best.{side-is, side-over}
-use Rattle.lines.specs.Line.{NodeParts, pay, children, lineSide, lineTakes, lineNode, emptyCell}
+use Rattle.lines.specs.Line.{NoneFrom, NodeParts, pay, children, lineSide, lineTakes, lineNode, emptyCell}
 
 module _ (taken spare : List ℕ) (member other n : ℕ) where
   pub side-without-caches : n ≡ 0 → lineSide taken spare member other n true ≡ cap
@@ -32,6 +32,12 @@ module _ (taken spare : List ℕ) (member other n : ℕ) where
 
   pub node-within : (w : ℕ) → n < w → NodeParts w taken spare member other → lineNode taken spare member other n ≤ cap + cap
   node-within w h parts = omega (arith, node-is-lesser, side-other, parts .spare-line .within n h, parts .pays .1)
+
+  -- with two caches more than its children's row has nodes it has no choice
+  pub node-none : (w below : ℕ) → NoneFrom (below + 1) w taken → NoneFrom (below + 1) w spare → below + 2 ≤ n → n < w
+      → cap ≤ lineNode taken spare member other n
+  node-none w below t s h k =
+      omega (arith, node-is-lesser, side-other, side-member (omega arith), t (n - 1) (omega arith) (omega arith), s n (omega arith) k)
 
   -- the node is a cache unless its other side costs less
   pub takes-unless-less : {with without : ℕ} {less : Bool} → with ≡ lineSide taken spare member other n true

@@ -1,46 +1,33 @@
 -- Laws of a row's line: the loop over the counts that have a choice finds the least of all splits.
-use mathlib.Core.Path.{_≡_, refl, sym, _∙_}
-use mathlib.Core.Bool.{Bool, false}
+use mathlib.Core.Path.{_≡_, refl, _∙_}
 use mathlib.Core.List.{List, map}
 use mathlib.Core.Logic.{inl, inr, ⊎-elim, ⊎-map}
 use Prim.Native.Nat.{ℕ, suc, _+_, _-_, _≤_, _<_, min}
 use native.Mathlib.Numerals.{add-one}
-use native.Mathlib.Decide.{decLe, decLt}
+use native.Mathlib.Decide.{decLt}
 use native.Mathlib.Omega.{arith}
-use lib.Dec.{ltb}
-use lib.ListN.{length, take, getD, set, replicate, getD-replicate}
-use lib.Seq.{getD-set-same, getD-set-other}
-use borrow.Author.Tests.{ltb-false}
+use lib.ListN.{length, take, getD, set, replicate, length-replicate, getD-replicate}
+use lib.Seq.{getD-set-same, getD-set-other, sets, length-sets}
 use Rattle.laws.specs.Lists.{range}
-use Rattle.laws.proofs.FrontValues.{same-on-range, front-is-entries, entry-of-front}
+use Rattle.laws.proofs.Lists.{length-of-range}
+use Rattle.laws.proofs.Stores.{entry-after}
+use Rattle.laws.proofs.FrontValues.{same-on-range, front-is-entries}
+use Rattle.laws.proofs.Ranges.{entry-stored}
 use Rattle.best_rows.specs.Least.{low}
 use Rattle.best_rows.specs.Best.{cap, split, cell}
 use Rattle.best_rows.proofs.Least.{low-is}
-use Rattle.lines.specs.Line.{NoneFrom, LineParts, RowParts, lineNode, lineSplit, lineCell, rowSplit, rowCell, Lowered}
-use Rattle.lines.proofs.Node.{node-within}
-use Rattle.lines.proofs.Low.{low-within, low-same, low-leaves-out}
+use Rattle.lines.specs.Line.{mostWidth, NoneFrom, LineParts, RowBounds, RowParts, lineNode, lineSplit, lineCell, rowSplit, rowCell, Lowered}
+use Rattle.lines.proofs.Node.{node-within, node-none}
+use Rattle.lines.proofs.Low.{low-within, low-same, low-leaves-out, low-turned}
 
--- ---- the end of the counts that have a choice
+-- ---- lowering a line to the splits with r caches in one part
 
-pub none-at-end : (w : ℕ) (l : List ℕ) → NoneFrom w w l
-none-at-end w l n h k = absurd (omega arith)
-
-pub none-one-more : (w : ℕ) (l : List ℕ) (e : ℕ) {less : Bool} → NoneFrom e w l → less ≡ false → less ≡ ltb (getD l (e - 1) 0) cap
-    → NoneFrom (e - 1) w l
-none-one-more w l e none h c n p q =
-    elim (decLe e n) [
-      | yes i ↦ none n i q
-      | no i ↦ let at : n ≡ e - 1 = omega arith in rw at (ltb-false (getD l (e - 1) 0) cap (sym c ∙ h))
-    ]
-
--- ---- lowering a line to the splits with r caches among the later siblings
-
-module _ (before node : List ℕ) (r x : ℕ) where
-  pub lower-begins : Lowered before node 0 r x before
+module _ (before other : List ℕ) (r x : ℕ) where
+  pub lower-begins : Lowered before other 0 r x before
   lower-begins = record { inside = λ n h. absurd (omega arith); outside = λ m h. refl }
 
-  pub lower-turns : (n : ℕ) {after : List ℕ} {sum low : ℕ} → r + n < length after → Lowered before node n r x after
-      → sum ≡ getD node n 0 + x → low ≡ min (getD after (r + n) 0) sum → Lowered before node (n + 1) r x (set after (r + n) low)
+  pub lower-turns : (n : ℕ) {after : List ℕ} {sum low : ℕ} → r + n < length after → Lowered before other n r x after
+      → sum ≡ getD other n 0 + x → low ≡ min (getD after (r + n) 0) sum → Lowered before other (n + 1) r x (set after (r + n) low)
   lower-turns n {after} {sum} {low} h so-far hs hl = record {
     inside =
         λ i k.
@@ -59,7 +46,7 @@ module _ (before node : List ℕ) (r x : ℕ) where
 -- ---- so a loop over r finds the least of all splits
 
 module _ (node rest : List ℕ) (w : ℕ) where
-  -- each entry is the least of its splits with fewer than r caches among the later siblings
+  -- each entry is the least of its splits with fewer than r caches in `rest`
   abbrev pub LeastBefore : ℕ → List ℕ → Type 0
   LeastBefore r line = (m : ℕ) → m < w → getD line m 0 ≡ low cap (rowSplit node rest m) (min r (m + 1))
 
@@ -99,24 +86,71 @@ module _ (node rest : List ℕ) (w : ℕ) where
       so-far m (omega arith)
       ∙ low-leaves-out cap (rowSplit node rest m) (min e (m + 1)) (m + 1) (omega arith) (λ i p q. omega (arith, none i (omega arith) (omega arith))))
 
--- ---- all entries, where the node's line is known
+-- ---- the parts may change places
 
-module _ (taken spare rest : List ℕ) (member other : ℕ) (node : List ℕ) (w : ℕ)
-    (known : take w node ≡ map (lineNode taken spare member other) (range 0 w)) where
-  pub row-parts : LineParts w taken spare rest member other → w ≤ length node → RowParts w node rest
-  row-parts p h = record {
-    node-line = record {
-      long = h;
-      within = λ n k. omega (arith, entry-of-front (lineNode taken spare member other) w node n known k, node-within taken spare member other n w k (p .node-parts));
-    };
-    rest-line = p .rest-line;
+pub row-parts-turned : {w a b : ℕ} {node rest : List ℕ} → RowParts w node rest a b → RowParts w rest node b a
+row-parts-turned p = record {
+  long = (p .long .1, p .long .0);
+  ends = (p .ends .1, p .ends .0);
+  none = (p .none .1, p .none .0);
+  fits = λ m n h k. omega (arith, p .fits n m k h);
+}
+
+row-cell-turned : (node rest : List ℕ) (m : ℕ) → rowCell node rest m ≡ rowCell rest node m
+unfolding rowCell
+row-cell-turned node rest m =
+    low-turned cap (rowSplit node rest m) (rowSplit rest node m) m
+    (λ i h. let back : m - (m - i) ≡ i = omega arith in rw back (omega arith))
+
+pub row-turned : (node rest : List ℕ) (w : ℕ) → map (rowCell node rest) (range 0 w) ≡ map (rowCell rest node) (range 0 w)
+row-turned node rest w = same-on-range (rowCell node rest) (rowCell rest node) 0 w (λ m _ _. row-cell-turned node rest m)
+
+-- ---- all entries, where the node's line is known up to its end
+
+module _ {taken spare rest : List ℕ} {member other w below after : ℕ} (parts : LineParts w taken spare rest member other)
+    (bounds : RowBounds w taken spare rest below after) (wide : w ≤ mostWidth) {node : List ℕ} {end : ℕ} (ends : end ≡ min w (below + 2))
+    (known : node ≡ sets (replicate mostWidth cap) 0 (map (lineNode taken spare member other) (range 0 end))) where
+  entry-known : (n : ℕ) → n < end → getD node n 0 ≡ lineNode taken spare member other n
+  entry-known n h =
+      rw known (entry-stored (replicate mostWidth cap) (lineNode taken spare member other) end n (rw length-replicate (omega arith)) h)
+
+  entry-none : (n : ℕ) → end ≤ n → n < w → getD node n 0 ≡ cap
+  entry-none n h k =
+      rw known
+      (entry-after (replicate mostWidth cap) 0 (map (lineNode taken spare member other) (range 0 end)) n
+      (rw (length-of-range (lineNode taken spare member other) 0 end) (omega arith))
+      ∙ getD-replicate mostWidth n cap 0 (omega arith))
+
+  entry-within : (n : ℕ) → n < w → getD node n 0 ≤ cap + cap
+  entry-within n h =
+      elim (decLt n end) [
+        | yes l ↦ omega (arith, entry-known n l, node-within taken spare member other n w h (parts .node-parts))
+        | no l ↦ omega (arith, entry-none n (omega arith) h)
+      ]
+
+  pub row-parts : {last : ℕ} → last ≡ min w (after + 1) → RowParts w node rest end last
+  unfolding cap
+  row-parts e = record {
+    long = (rw (known, length-sets) (rw length-replicate wide), parts .rest-line .long);
+    ends = (omega arith, omega arith);
+    none = (λ n h k. omega (arith, entry-none n h k), λ n h k. bounds .rest-none n (omega arith) k);
+    fits = λ m n h k. omega (arith, entry-within m h, parts .rest-line .within n k);
   }
 
   row-is-cell : (m : ℕ) → m < w → rowCell node rest m ≡ lineCell taken spare rest member other m
   unfolding rowCell lineCell lineNode split cell
   row-is-cell m h =
       low-same cap (rowSplit node rest m) (lineSplit taken spare rest member other m) (m + 1)
-      (λ i l. omega (arith, entry-of-front (lineNode taken spare member other) w node (m - i) known (omega arith)))
+      (λ i l.
+      elim (decLt (m - i) end) [
+        | yes k ↦ omega (arith, entry-known (m - i) k)
+        | no k ↦
+            omega (
+              arith,
+              entry-none (m - i) (omega arith) (omega arith),
+              node-none taken spare member other (m - i) w below (bounds .taken-none) (bounds .spare-none) (omega arith) (omega arith),
+            )
+      ])
       ∙ rw (add-one m) (low-is (lineSplit taken spare rest member other m) cap m)
 
   pub row-is-line : map (rowCell node rest) (range 0 w) ≡ map (lineCell taken spare rest member other) (range 0 w)

@@ -3,10 +3,10 @@ use mathlib.Core.Path.{_≡_}
 use mathlib.Core.Bool.{Bool, cond}
 use mathlib.Core.List.{List}
 use mathlib.Core.Logic.{_⊎_}
-use Prim.Native.Nat.{ℕ, zero, suc, _+_, _-_, _≤_, _<_, min}
+use Prim.Native.Nat.{ℕ, zero, suc, _+_, _-_, _≤_, _<_, _^_, min}
 use lib.ListN.{length, getD}
 use Rattle.laws.specs.Lists.{bit}
-use Rattle.model.specs.File.{mostBudget}
+use Rattle.model.specs.File.{mostBudget, mostNodes}
 use Rattle.best_rows.specs.Least.{firstLeast, low}
 use Rattle.best_rows.specs.Best.{cap, side, turn, nodeBest, split, cell}
 use Rattle.best_rows.specs.BestAt.{prefer}
@@ -77,11 +77,21 @@ pub record SplitBound (taken spare rest : List ℕ) (member other m most : ℕ) 
   pub over : (n : ℕ) → most < n → n ≤ m → cap ≤ lineNode taken spare member other n
   pub attained : lineCell taken spare rest member other m < cap
 
+-- the row of the node's children has `below` nodes, and that of its later siblings `after`: more caches cannot be had there
+pub record RowBounds (w : ℕ) (taken spare rest : List ℕ) (below after : ℕ) : Type 0 where
+  pub few : (below < mostNodes) × (after < mostNodes)
+  pub taken-none : NoneFrom (below + 1) w taken
+  pub spare-none : NoneFrom (below + 1) w spare
+  pub rest-none : NoneFrom (after + 1) w rest
+
 -- ---- the same row from the line of its first node, whose entries may be above the cap
 
-pub record RowParts (w : ℕ) (node rest : List ℕ) : Type 0 where
-  pub node-line : Line w (cap + cap) node
-  pub rest-line : Line w cap rest
+-- the lines of the two parts of a row, each with no choice from its end on; every sum of their entries fits a word
+pub record RowParts (w : ℕ) (node rest : List ℕ) (own others : ℕ) : Type 0 where
+  pub long : (w ≤ length node) × (w ≤ length rest)
+  pub ends : (own ≤ w) × (others ≤ w)
+  pub none : NoneFrom own w node × NoneFrom others w rest
+  pub fits : (m n : ℕ) → m < w → n < w → getD node m 0 + getD rest n 0 < 2 ^ 64
 
 -- the row with m caches, of which r are among the later siblings
 abbrev pub rowSplit : List ℕ → List ℕ → ℕ → ℕ → ℕ
@@ -91,10 +101,13 @@ rowSplit node rest m r = getD node (m - r) 0 + getD rest r 0
 unfoldable pub rowCell : List ℕ → List ℕ → ℕ → ℕ
 rowCell node rest m = low cap (rowSplit node rest m) (m + 1)
 
--- `after` is `before`, lowered to the splits with r caches among the later siblings, which then cost x, and fewer than `end`
--- at the node
-pub record Lowered (before node : List ℕ) (end r x : ℕ) (after : List ℕ) : Type 0 where
-  pub inside : (n : ℕ) → n < end → getD after (r + n) 0 ≡ min (getD before (r + n) 0) (getD node n 0 + x)
+-- each entry below the end fits a word together with x
+abbrev pub SumsFit : ℕ → List ℕ → ℕ → Type 0
+SumsFit end l x = (n : ℕ) → n < end → getD l n 0 + x < 2 ^ 64
+
+-- `after` is `before`, lowered to the splits with r caches in one part, which then cost x, and fewer than `end` in the other
+pub record Lowered (before other : List ℕ) (end r x : ℕ) (after : List ℕ) : Type 0 where
+  pub inside : (n : ℕ) → n < end → getD after (r + n) 0 ≡ min (getD before (r + n) 0) (getD other n 0 + x)
   pub outside : (m : ℕ) → (m < r) ⊎ (r + end ≤ m) → getD after m 0 ≡ getD before m 0
 
 -- the least of the empty row with m caches

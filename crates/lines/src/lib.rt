@@ -2,12 +2,12 @@
 ghost use mathlib.Core.Path.{_≡_};
 ghost use mathlib.Core.Bool.{true, false};
 ghost use mathlib.Core.List.{map};
-ghost use Prim.Native.Nat.{_+_, _-_, _≤_, _<_, min};
-ghost use lib.ListN.{length, take};
+ghost use Prim.Native.Nat.{_+_, _≤_, min};
+ghost use lib.ListN.{length, take, replicate};
 ghost use lib.Seq.{sets};
 ghost use Rattle.laws.specs.Lists.{range};
 ghost use Rattle.best_rows.specs.Best.{cap};
-ghost use Rattle.lines.specs.Line.{mostWidth, Line, NoneFrom, NodeParts, LineParts, RowParts, lineSide, lineTakes, lineNode, lineSplit, lineLater, lineCell, SplitBound, rowCell, Lowered, emptyCell};
+ghost use Rattle.lines.specs.Line.{mostWidth, NodeParts, LineParts, RowBounds, RowParts, SumsFit, lineSide, lineTakes, lineNode, lineSplit, lineLater, lineCell, SplitBound, rowCell, Lowered, emptyCell};
 use units::Total;
 
 // The most entries of a line: one for each budget from 0 to the largest.
@@ -56,36 +56,19 @@ pub fn takes(taken: &[u64], spare: &[u64], member: Total, other: Total, n: usize
     !sides.other.is_less(sides.member)
 }
 
-// A node's line.
-fn node_line(taken: &[u64], spare: &[u64], member: Total, other: Total, w: usize) -> [u64; WIDTH]
-    requires { ⌜ w ≤ mostWidth ⌝ }
-    requires { ⌜ NodeParts w (now taken) (now spare) (member .0) (other .0) ⌝ }
-    ensures { λ r. ⌜ take w r ≡ map (lineNode (now (taken .entry)) (now (spare .entry)) (member .0) (other .0)) (range 0 w) ⌝ }
+// A node's line for the counts below `end`; from there on it has no choice.
+fn node_line(taken: &[u64], spare: &[u64], member: Total, other: Total, end: usize) -> [u64; WIDTH]
+    requires { ⌜ end ≤ mostWidth ⌝ }
+    requires { ⌜ NodeParts end (now taken) (now spare) (member .0) (other .0) ⌝ }
+    ensures { λ r. ⌜ r ≡ sets (replicate mostWidth cap) 0 (map (lineNode (now (taken .entry)) (now (spare .entry)) (member .0) (other .0)) (range 0 end)) ⌝ }
 {
-    let mut line = [0u64; WIDTH];
+    let mut line = [Total::CAP.0; WIDTH];
     let mut n = 0;
-    while n < w {
+    while n < end {
         line[n] = node_best(taken, spare, member, other, n).0;
         n += 1;
     }
     line
-}
-
-// The end of the counts that have a choice.
-fn feasible(line: &[u64], w: usize) -> usize
-    requires { ⌜ w ≤ length (now line) ⌝ }
-    ensures { λ r. ⌜ r ≤ w ⌝ }
-    ensures { λ r. ⌜ NoneFrom r w (now (line .entry)) ⌝ }
-{
-    let mut end = w;
-    while 0 < end {
-        let last = end - 1;
-        if Total(line[last]).is_less(Total::CAP) {
-            return end;
-        }
-        end = last;
-    }
-    end
 }
 
 fn lesser(a: usize, b: usize) -> usize
@@ -94,39 +77,51 @@ fn lesser(a: usize, b: usize) -> usize
     if b < a { b } else { a }
 }
 
-// Lowers a row's line to the splits with r caches among the later siblings, which then cost `rest`, and fewer than `end` at the
-// node.
-fn lower(line: &mut [u64], node: &[u64], end: usize, r: usize, rest: Total)
-    requires { ⌜ (r + end ≤ length (now line)) × (rest .0 ≤ cap) ⌝ }
-    requires { ⌜ Line end (cap + cap) (now node) ⌝ }
-    ensures { λ _. ⌜ Lowered (now (line .entry)) (now (node .entry)) end r (rest .0) (now (line .exit)) ⌝ }
+// Lowers a row's line to the splits with r caches in one part, which then cost `cost`, and fewer than `end` in the other.
+fn lower(line: &mut [u64], other: &[u64], end: usize, r: usize, cost: Total)
+    requires { ⌜ (r + end ≤ length (now line)) × (end ≤ length (now other)) ⌝ }
+    requires { ⌜ SumsFit end (now other) (cost .0) ⌝ }
+    ensures { λ _. ⌜ Lowered (now (line .entry)) (now (other .entry)) end r (cost .0) (now (line .exit)) ⌝ }
 {
     let mut n = 0;
     while n < end {
         let m = r + n;
-        line[m] = Total(line[m]).lesser(Total(node[n]).plus(rest)).0;
+        line[m] = Total(line[m]).lesser(Total(other[n]).plus(cost)).0;
         n += 1;
     }
 }
 
-// A row's line, from that of its first node and that of its later siblings.
-fn row_line(node: &[u64], rest: &[u64], w: usize) -> [u64; WIDTH]
+// The line of a row of two parts. Only counts below `end` have a choice in the first, and below `turns` in the second.
+fn joined(first: &[u64], second: &[u64], w: usize, end: usize, turns: usize) -> [u64; WIDTH]
     requires { ⌜ w ≤ mostWidth ⌝ }
-    requires { ⌜ RowParts w (now node) (now rest) ⌝ }
-    ensures { λ r. ⌜ take w r ≡ map (rowCell (now (node .entry)) (now (rest .entry))) (range 0 w) ⌝ }
+    requires { ⌜ RowParts w (now first) (now second) end turns ⌝ }
+    ensures { λ r. ⌜ take w r ≡ map (rowCell (now (first .entry)) (now (second .entry))) (range 0 w) ⌝ }
 {
-    let node_end = feasible(node, w);
-    let rest_end = feasible(rest, w);
     let mut line = [Total::CAP.0; WIDTH];
     let mut r = 0;
-    while r < rest_end {
-        lower(&mut line, node, lesser(node_end, w - r), r, Total(rest[r]));
+    while r < turns {
+        lower(&mut line, first, lesser(end, w - r), r, Total(second[r]));
         r += 1;
     }
     line
 }
 
-// A row's line, of its first node's children with the node as a cache and without, and of its later siblings.
+// A row's line, from that of its first node, with a choice for counts below `own`, and that of its later siblings, with one for
+// counts below `others`. The fewer take the turns.
+fn row_line(node: &[u64], rest: &[u64], w: usize, own: usize, others: usize) -> [u64; WIDTH]
+    requires { ⌜ w ≤ mostWidth ⌝ }
+    requires { ⌜ RowParts w (now node) (now rest) own others ⌝ }
+    ensures { λ r. ⌜ take w r ≡ map (rowCell (now (node .entry)) (now (rest .entry))) (range 0 w) ⌝ }
+{
+    if own < others {
+        joined(rest, node, w, others, own)
+    } else {
+        joined(node, rest, w, own, others)
+    }
+}
+
+// A row's line, of its first node's children with the node as a cache and without, and of its later siblings; `below` nodes are
+// in the children's row and `after` in the siblings'.
 pub fn line_of(
     taken: &[u64],
     spare: &[u64],
@@ -134,13 +129,18 @@ pub fn line_of(
     member: Total,
     other: Total,
     w: usize,
+    below: usize,
+    after: usize,
 ) -> [u64; WIDTH]
     requires { ⌜ w ≤ mostWidth ⌝ }
     requires { ⌜ LineParts w (now taken) (now spare) (now rest) (member .0) (other .0) ⌝ }
+    requires { ⌜ RowBounds w (now taken) (now spare) (now rest) below after ⌝ }
     ensures { λ r. ⌜ take w r ≡ map (lineCell (now (taken .entry)) (now (spare .entry)) (now (rest .entry)) (member .0) (other .0)) (range 0 w) ⌝ }
 {
-    let node = node_line(taken, spare, member, other, w);
-    row_line(&node, rest, w)
+    let own = lesser(w, below + 2);
+    let others = lesser(w, after + 1);
+    let node = node_line(taken, spare, member, other, own);
+    row_line(&node, rest, w, own, others)
 }
 
 // Stores a line of w entries from `at` on.

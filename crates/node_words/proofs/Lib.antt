@@ -2,3 +2,4 @@ pub mod Ancestors
 pub mod Words
 mod Measures
 mod Links
+mod Sizes

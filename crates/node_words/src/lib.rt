@@ -5,6 +5,7 @@ ghost use lib.ListN.{length, set};
 ghost use Rattle.laws.specs.Fronts.{FrontOnly};
 ghost use Rattle.model.specs.File.{treeOf};
 ghost use Rattle.node_words.specs.Words.{wordAt, distanceWord, depthWord, childWord, siblingWord, wordOf, HasNode, NodeRoom, SiteRoom, NodeWords, withPair, Measured, Cleared, Linked, LinksOnly};
+ghost use Rattle.node_words.specs.Sizes.{SomeFileWords, RowSizesBy};
 
 // Of each node: its distance to the server, its depth, its first child and its next sibling.
 const DISTANCE: usize = 0;
@@ -156,4 +157,20 @@ pub fn note_nodes(file: &[u8], n: usize, words: &mut [u64])
 {
     measure(file, n, words);
     link(file, n, words);
+}
+
+// How many nodes the row that begins with each node has; 0 stands for no node.
+pub fn row_sizes(words: &[u64], n: usize) -> [usize; fields::Tree::NODES]
+    requires { ⌜ SomeFileWords n (now words) ⌝ }
+    ensures { λ r. ⌜ RowSizesBy n (now (words .entry)) r ⌝ }
+{
+    let mut sizes = [0usize; fields::Tree::NODES];
+    let mut v = n;
+    while 1 < v {
+        v -= 1;
+        let below = sizes[child_of(words, v)];
+        let after = sizes[sibling_of(words, v)];
+        sizes[v] = 1 + below + after;
+    }
+    sizes
 }

@@ -4,21 +4,23 @@ use mathlib.Core.Bool.{cond}
 use mathlib.Core.List.{List, map}
 use mathlib.Core.Logic.{_⊎_, inl, inr}
 use Prim.Native.Nat.{ℕ, _<_}
+use native.Mathlib.Omega.{arith}
 use lib.ListN.{length, take}
 use Rattle.laws.specs.Lists.{range, bit}
 use Rattle.laws.proofs.Lists.{length-of-range}
 use Rattle.laws.proofs.FrontValues.{same-on-range}
-use Rattle.model.specs.File.{Tree, Demand}
+use Rattle.model.specs.File.{Tree, Demand, mostNodes}
 use Rattle.model.specs.Bill.{price}
 use Rattle.model.proofs.Accepted.{Sound}
+use Rattle.best_rows.specs.Rows.{rowSize}
 use Rattle.best_rows.specs.Best.{cell, best}
-use Rattle.best_rows.specs.TreeRows.{firstChild, nextSibling}
+use Rattle.best_rows.specs.TreeRows.{firstChild, nextSibling, rowAt}
 use Rattle.best_rows.specs.BestAt.{one, prefer, site, bestAt, childrenAt}
 use Rattle.best_rows.proofs.TreeRows.{row-at-none, row-at-node}
-use Rattle.best_rows.proofs.Table.{best-at-within-cap}
+use Rattle.best_rows.proofs.Table.{best-at-within-cap, best-at-over}
 use Rattle.node_words.specs.Ancestors.{ancestorAt}
-use Rattle.lines.specs.Line.{LineParts, lineCell, emptyCell}
-use Rattle.lines.proofs.Known.{Known, known-parts, known-line, empty-is-best}
+use Rattle.lines.specs.Line.{LineParts, RowBounds, lineCell, emptyCell}
+use Rattle.lines.proofs.Known.{Known, known-parts, known-bounds, known-line, empty-is-best}
 use Rattle.table.specs.Table.{lineFor, Served}
 use Rattle.table.proofs.Prices.{price-within-cap}
 
@@ -77,3 +79,13 @@ module _ (t : Tree) (d : Demand) where
         rw (e, m, o)
         (known-parts w (site t d v .pay u) (childrenAt t d v u) (bestAt t d (nextSibling t v) u) taken spare rest known
         (λ b. price-within-cap t d ok v (cond b v u)) (λ b. best-at-within-cap t d (firstChild t v) (cond b v u)) (best-at-within-cap t d (nextSibling t v) u))
+
+    -- and how many caches its parts can have
+    pub bounds-read : {v a u n below after : ℕ} {taken spare rest : List ℕ} → Served t v a u
+        → Known w (childrenAt t d v u) (bestAt t d (nextSibling t v) u) taken spare rest
+        → n ≡ w → below ≡ rowSize (rowAt t (firstChild t v)) → after ≡ rowSize (rowAt t (nextSibling t v))
+        → (below < mostNodes) × (after < mostNodes) → RowBounds n taken spare rest below after
+    bounds-read {v} {a} {u} {taken = taken} {spare = spare} {rest = rest} at known e b f few =
+        rw e
+        (known-bounds w (site t d v .pay u) (childrenAt t d v u) (bestAt t d (nextSibling t v) u) taken spare rest known few
+        (λ x n h. best-at-over t d (firstChild t v) (cond x v u) n (omega arith)) (λ n h. best-at-over t d (nextSibling t v) u n (omega arith)))

@@ -5,25 +5,27 @@ use mathlib.Core.Logic.{inl, inr, ⊎-elim}
 use Prim.Native.Nat.{ℕ, _+_, _≤_, _<_}
 use native.Mathlib.Nat.{le-refl}
 use native.Mathlib.Omega.{arith}
-use lib.ListN.{length}
+use lib.ListN.{length, getD}
 use Rattle.laws.specs.Lists.{range}
 use Rattle.laws.proofs.Numbers.{row-before}
-use Rattle.model.specs.File.{Tree, treeOf, demandOf, countOf}
+use Rattle.model.specs.File.{Tree, mostNodes, treeOf, demandOf, countOf}
 use Rattle.model.specs.Tree.{depth}
 use Rattle.model.proofs.Routes.{Preorder}
 use Rattle.fields.specs.declared.Tree as code
 use Rattle.best_rows.specs.TreeRows.{firstChild, nextSibling}
 use Rattle.best_rows.specs.BestAt.{bestAt, childrenAt}
 use Rattle.best_rows.proofs.TreeRows.{NoneOrChild, first-child-stands, next-sibling-stands}
+use Rattle.best_rows.proofs.Cover.{row-size-within}
 use Rattle.node_words.specs.Words.{HasNode, wordOf, depthWord, childWord, siblingWord}
 use Rattle.node_words.specs.Ancestors.{ancestorAt}
+use Rattle.node_words.specs.Sizes.{RowSizes}
 use Rattle.node_words.proofs.Words.{child-word-stands, sibling-word-stands}
 use Rattle.node_words.proofs.Ancestors.{ancestor-self, child-depth, child-ancestor, sibling-depth, sibling-ancestor, ancestor-before, ancestor-nearer}
-use Rattle.lines.specs.Line.{mostWidth}
+use Rattle.lines.specs.Line.{mostWidth, RowBounds}
 use Rattle.lines.proofs.Known.{Known}
 use Rattle.table.specs.Table.{width, lineNumber, tableEnd, InTable, lineIn, FilledFrom, TableFrom, Served, Client}
-use Rattle.table.proofs.Lines.{line-under}
-use Rattle.table.proofs.Room.{room-sound, room-count, room-long, room-place, room-depth, ready-node, ready-client}
+use Rattle.table.proofs.Lines.{line-under, bounds-read}
+use Rattle.table.proofs.Room.{room-sound, room-count, in-tree, room-long, room-place, room-depth, ready-node, ready-client}
 
 module _ {file : List ℕ} {sizes : code.Tree} {s : List ℕ} {i : ℕ} (r : TableFrom file sizes s i) where
   -- ---- where the line of a row stands
@@ -79,6 +81,23 @@ module _ {file : List ℕ} {sizes : code.Tree} {s : List ℕ} {i : ℕ} (r : Tab
         let deep = room-depth (r .ready .room) {v = v} (omega (arith, room-count (r .ready .room))) in
         row-line v (t .parent v) (nextSibling t v) a (ancestorAt t v a) (omega arith) before (next-sibling-stands t v)
         (λ some e. (omega (arith, sibling-depth t pre (nextSibling t v) v some site e), sibling-ancestor t pre (nextSibling t v) v a some site e h))
+
+  -- ---- how many nodes it has
+
+  module _ {counts : List ℕ} (rows : RowSizes (treeOf file) counts) {x : ℕ} (h : x < sizes .nodes) where
+    pub row-counted : x < length counts
+    row-counted = omega (arith, rows .long, room-count (r .ready .room))
+
+    row-few : getD counts x 0 < mostNodes
+    row-few =
+        let node = in-tree (r .ready .room) h in
+        omega (
+          arith,
+          rows .size x node,
+          row-size-within (treeOf file) (room-sound (r .ready .room) .preorder) x node,
+          room-count (r .ready .room),
+          room-place (r .ready .room) {a = 0} h (omega arith) .nodes,
+        )
 
   -- ---- a node and the one that serves it from above
 
@@ -137,6 +156,21 @@ module _ {file : List ℕ} {sizes : code.Tree} {s : List ℕ} {i : ℕ} (r : Tab
           spare-is = y ∙ rw (child, at .server) (children-line v (at .node) before a (omega (arith, at .above)));
           rest-is = z ∙ rw (b, words .sibling v (at .site) (at .node), at .server) (siblings-line v (at .node) before a (at .site) (at .above));
         }
+
+    -- how many caches these can have
+    pub lines-bounded : {child sibling n : ℕ} {taken spare rest counts : List ℕ}
+        → Known (width sizes) (childrenAt (treeOf file) (demandOf file) v u)
+        (bestAt (treeOf file) (demandOf file) (nextSibling (treeOf file) v) u) taken spare rest
+        → RowSizes (treeOf file) counts → child ≡ wordOf s v childWord → sibling ≡ wordOf s v siblingWord → n ≡ width sizes
+        → RowBounds n taken spare rest (getD counts child 0) (getD counts sibling 0)
+    lines-bounded known rows c b e =
+        let words = r .ready .words in
+        let first = children-place c .0 .node in
+        let next = siblings-place b .0 .node in
+        bounds-read (treeOf file) (demandOf file) (width sizes) at known e
+        (rows .size _ (in-tree (r .ready .room) first) ∙ rw (c, words .child v (at .node)))
+        (rows .size _ (in-tree (r .ready .room) next) ∙ rw (b, words .sibling v (at .site) (at .node)))
+        (row-few rows first, row-few rows next)
 
 -- the line after (v, a) is none after those of v
 pub next-before : {file : List ℕ} {sizes : code.Tree} {s : List ℕ} {v a u i : ℕ} → TableFrom file sizes s i → Served (treeOf file) v a u

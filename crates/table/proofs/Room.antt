@@ -12,6 +12,7 @@ use Rattle.model.proofs.Bounds.{height-bound}
 use Rattle.model.proofs.Depths.{depth-within-height}
 use Rattle.fields.specs.declared.Tree as code
 use Rattle.node_words.specs.Words.{HasNode, NodeRoom}
+use Rattle.node_words.specs.Sizes.{FileWords}
 use Rattle.node_words.proofs.Words.{node-words-same}
 use Rattle.table.specs.Table.{tableEnd, InTable, TableRoom, Ready, Client}
 
@@ -60,6 +61,9 @@ module _ {file : List ℕ} {sizes : code.Tree} {s : List ℕ} (r : TableRoom fil
 module _ {file : List ℕ} {sizes : code.Tree} {s : List ℕ} (r : Ready file sizes s) where
   pub ready-node : {x : ℕ} → x < sizes .nodes → HasNode s x
   ready-node h = omega (arith, room-nodes (r .room) .room)
+
+  pub ready-words : FileWords file (sizes .nodes) s
+  ready-words = record { nodes = room-nodes (r .room); stand = r .words }
 
   -- a node and one that can serve it
   pub ready-client : {v u : ℕ} → v < sizes .nodes → u ≤ v → distance (treeOf file) u ≤ distance (treeOf file) v → Client file s v u

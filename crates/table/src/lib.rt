@@ -5,6 +5,7 @@ ghost use lib.ListN.{length, take};
 ghost use lib.Seq.{sets};
 ghost use Rattle.model.specs.File.{treeOf, demandOf};
 ghost use Rattle.model.specs.Bill.{price};
+ghost use Rattle.node_words.specs.Sizes.{RowSizes};
 ghost use Rattle.lines.specs.Line.{mostWidth};
 ghost use Rattle.table.specs.Table.{width, lineNumber, lineAt, tableEnd, InTable, lineIn, lineFor, TableRoom, Ready, Made, TableFrom, Served, Client, EmptyTo};
 use units::Total;
@@ -52,15 +53,18 @@ pub fn pays(file: &[u8], s: &[u64], v: usize, u: usize) -> Total
 // ---- one line
 
 // Line (v, a), where u is v's ancestor at depth a: of v's children under v and under u, and of its later siblings under u.
+// `sizes` has how many nodes each row has.
 fn made_line(
     file: &[u8],
     tree: fields::Tree,
     s: &[u64],
+    sizes: &[usize],
     v: usize,
     a: usize,
     u: usize,
 ) -> [u64; lines::WIDTH]
     requires { ⌜ TableFrom (now file) tree (now s) (lineNumber tree v a + 1) ⌝ }
+    requires { ⌜ RowSizes (treeOf (now file)) (now sizes) ⌝ }
     requires { ⌜ Served (treeOf (now file)) v a u ⌝ }
     ensures { λ r. ⌜ take (width tree) r ≡ lineFor (treeOf (now (file .entry))) (demandOf (now (file .entry))) (width tree) v a ⌝ }
 {
@@ -72,16 +76,27 @@ fn made_line(
     let rest = line(s, tree, sibling, a);
     let member = pays(file, s, v, v);
     let other = pays(file, s, v, u);
-    lines::line_of(taken, spare, rest, member, other, width(tree))
+    let below = sizes[child];
+    let after = sizes[sibling];
+    lines::line_of(taken, spare, rest, member, other, width(tree), below, after)
 }
 
 // Makes line (v, a), where u is v's ancestor at depth a, and stores it.
-fn fill_one(file: &[u8], tree: fields::Tree, s: &mut [u64], v: usize, a: usize, u: usize)
+fn fill_one(
+    file: &[u8],
+    tree: fields::Tree,
+    s: &mut [u64],
+    sizes: &[usize],
+    v: usize,
+    a: usize,
+    u: usize,
+)
     requires { ⌜ TableFrom (now file) tree (now s) (lineNumber tree v a + 1) ⌝ }
+    requires { ⌜ RowSizes (treeOf (now file)) (now sizes) ⌝ }
     requires { ⌜ Served (treeOf (now file)) v a u ⌝ }
     ensures { λ _. ⌜ now (s .exit) ≡ sets (now (s .entry)) (lineAt tree v a) (lineFor (treeOf (now (file .entry))) (demandOf (now (file .entry))) (width tree) v a) ⌝ }
 {
-    let made = made_line(file, tree, s, v, a, u);
+    let made = made_line(file, tree, s, sizes, v, a, u);
     lines::put(s, line_at(tree, v, a), width(tree), made);
 }
 
@@ -101,9 +116,10 @@ fn fill_empty(tree: fields::Tree, s: &mut [u64])
 }
 
 // The lines of node v, from its parent's depth up to the server's.
-fn fill_node(file: &[u8], tree: fields::Tree, s: &mut [u64], v: usize)
+fn fill_node(file: &[u8], tree: fields::Tree, s: &mut [u64], sizes: &[usize], v: usize)
     requires { ⌜ (0 < v) × (v < tree .nodes) ⌝ }
     requires { ⌜ TableFrom (now file) tree (now s) (lineNumber tree (v + 1) 0) ⌝ }
+    requires { ⌜ RowSizes (treeOf (now file)) (now sizes) ⌝ }
     ensures { λ _. ⌜ Made (now (file .entry)) tree (lineNumber tree v 0) (now (s .entry)) (now (s .exit)) ⌝ }
 {
     let mut a = node_words::depth_word(s, v);
@@ -111,20 +127,21 @@ fn fill_node(file: &[u8], tree: fields::Tree, s: &mut [u64], v: usize)
     while 0 < a {
         a -= 1;
         u = fields::parent_of(file, u);
-        fill_one(file, tree, s, v, a, u);
+        fill_one(file, tree, s, sizes, v, a, u);
     }
 }
 
 // All lines, from the last node's down.
-fn fill_table(file: &[u8], tree: fields::Tree, s: &mut [u64])
+fn fill_table(file: &[u8], tree: fields::Tree, s: &mut [u64], sizes: &[usize])
     requires { ⌜ Ready (now file) tree (now s) ⌝ }
+    requires { ⌜ RowSizes (treeOf (now file)) (now sizes) ⌝ }
     ensures { λ _. ⌜ Made (now (file .entry)) tree 0 (now (s .entry)) (now (s .exit)) ⌝ }
 {
     fill_empty(tree, s);
     let mut v = tree.nodes;
     while 1 < v {
         v -= 1;
-        fill_node(file, tree, s, v);
+        fill_node(file, tree, s, sizes, v);
     }
 }
 
@@ -134,5 +151,6 @@ pub fn make_table(file: &[u8], tree: fields::Tree, s: &mut [u64])
     ensures { λ _. ⌜ Made (now (file .entry)) tree 0 (now (s .entry)) (now (s .exit)) ⌝ }
 {
     node_words::note_nodes(file, tree.nodes, s);
-    fill_table(file, tree, s);
+    let sizes = node_words::row_sizes(s, tree.nodes);
+    fill_table(file, tree, s, &sizes);
 }

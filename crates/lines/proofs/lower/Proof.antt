@@ -1,21 +1,20 @@
--- `lower`: lowers a row's line to the splits with r caches among the later siblings, which then cost `rest`, and fewer than ..
+-- `lower`: lowers a row's line to the splits with r caches in one part, and fewer than `end` in the other.
 use mathlib.Core.Path.{_≡_, refl}
 use Prim.Native.Nat.{_-_, _≤_}
 use native.Mathlib.Omega.{arith}
 use lib.ListN.{length, length-set}
 use borrow.Author.Needs.{needs}
-use Rattle.best_rows.specs.Best.{cap}
 use Rattle.lines.specs.Line.{Lowered}
 use Rattle.lines.proofs.Row.{lower-begins, lower-turns}
 use Rattle.lines.proofs.lower.Statement.{statement}
 use Rattle.lines.proofs.lower.Tie as tie
 
 abbrev Inv-loop : tie.InvT-loop
-Inv-loop line₀ node end r rest n₀ line n =
-    (n ≤ end) × (length line ≡ length line₀) × Lowered line₀ node n r (rest .0) line
+Inv-loop line₀ other end r cost n₀ line n =
+    (n ≤ end) × (length line ≡ length line₀) × Lowered line₀ other n r (cost .0) line
 
 abbrev μ-loop : tie.MeasureT-loop
-μ-loop line₀ node end r rest n₀ line n = end - n
+μ-loop line₀ other end r cost n₀ line n = end - n
 
 loop-holds : tie.Need-loop-holds Inv-loop μ-loop
 loop-holds c = (omega arith, refl, lower-begins _ _ _ _)
@@ -30,16 +29,15 @@ slice-read-t12 : tie.Need-slice-read-t12 Inv-loop μ-loop
 slice-read-t12 c = omega arith
 
 mul-t15 : tie.Need-mul-t15 Inv-loop μ-loop
-mul-t15 c = let s = c .before .before .before .before .before in omega (arith, s .pre .1 .long)
+mul-t15 c = let s = c .before .before .before .before .before in omega (arith, s .pre .0 .1)
 
 shared-slice-read-t17 : tie.Need-shared-slice-read-t17 Inv-loop μ-loop
-shared-slice-read-t17 c = let s = c .before .before .before .before .before .before in omega (arith, s .pre .1 .long)
+shared-slice-read-t17 c = let s = c .before .before .before .before .before .before in omega (arith, s .pre .0 .1)
 
 plus-requires : tie.Need-plus-requires Inv-loop μ-loop
-unfolding cap
 plus-requires c κs =
     let s = c .before .before .before .before .before .before in
-    omega (arith, s .pre .1 .within (c .before .before .before .loop .n) (omega arith))
+    omega (arith, s .pre .1 (c .before .before .before .loop .n) (omega arith))
 
 lesser-requires : tie.Need-lesser-requires Inv-loop μ-loop
 lesser-requires c κs = search needs
@@ -62,7 +60,7 @@ loop-again c =
     let a = c .before .before .before .before .before .before .before .before .args in (
       omega arith,
       simp length-set (l .inv .1),
-      lower-turns _ (a .node .now) (a .r) (a .rest .0) (l .n) (omega arith) (l .inv .2) (c .before .plus .ensures) (c .lesser .ensures),
+      lower-turns _ (a .other .now) (a .r) (a .cost .0) (l .n) (omega arith) (l .inv .2) (c .before .plus .ensures) (c .lesser .ensures),
     )
 
 same-length : tie.Need-same-length Inv-loop μ-loop

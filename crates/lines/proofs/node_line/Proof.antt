@@ -1,4 +1,4 @@
--- `node_line`: a node's line.
+-- `node_line`: a node's line for the counts below `end`.
 use mathlib.Core.Path.{_≡_}
 use mathlib.Core.List.{map}
 use Prim.Native.Nat.{_-_, _≤_}
@@ -7,18 +7,18 @@ use lib.Seq.{sets}
 use borrow.Author.Needs.{needs}
 use Rattle.laws.specs.Lists.{range}
 use Rattle.laws.proofs.Stores.{loop-begins, loop-turns}
-use Rattle.laws.proofs.FrontValues.{loop-wrote-front}
+use Rattle.best_rows.specs.Best.{cap}
 use Rattle.lines.specs.Line.{lineNode}
 use Rattle.lines.proofs.Fewer.{parts-fewer}
 use Rattle.lines.proofs.node_line.Statement.{statement}
 use Rattle.lines.proofs.node_line.Tie as tie
 
 abbrev Inv-loop : tie.InvT-loop
-Inv-loop taken spare member other w line₀ n₀ line n =
-    (n ≤ w) × (line ≡ sets line₀ 0 (map (lineNode taken spare (member .0) (other .0)) (range 0 n)))
+Inv-loop taken spare member other end line₀ n₀ line n =
+    (n ≤ end) × (line ≡ sets line₀ 0 (map (lineNode taken spare (member .0) (other .0)) (range 0 n)))
 
 abbrev μ-loop : tie.MeasureT-loop
-μ-loop taken spare member other w line₀ n₀ line n = w - n
+μ-loop taken spare member other end line₀ n₀ line n = end - n
 
 loop-holds : tie.Need-loop-holds Inv-loop μ-loop
 loop-holds c = (omega arith, loop-begins _ _ _)
@@ -42,7 +42,10 @@ loop-again : tie.Need-loop-again Inv-loop μ-loop
 loop-again c = let l = c .before .before .loop in (omega arith, loop-turns _ 0 _ (l .n) (l .inv .1) (omega arith) (c .node-best .ensures))
 
 returns : tie.Need-returns Inv-loop μ-loop
-returns c = loop-wrote-front _ _ (c .before .loop .n) _ (c .before .loop .inv .1) (omega arith) (omega arith)
+unfolding cap
+returns c =
+    let all : c .before .loop .n ≡ c .before .before .before .before .args .end = omega arith in
+    rw (← all) (c .before .loop .inv .1)
 
 pub node-line-spec : {M : Type 1} → statement M
 node-line-spec =

@@ -13,19 +13,19 @@ use Rattle.table.proofs.fill_node.Statement.{statement}
 use Rattle.table.proofs.fill_node.Tie as tie
 
 abbrev Inv-loop : tie.InvT-loop
-Inv-loop file tree s₀ v a₀ u₀ s a u =
+Inv-loop file tree s₀ sizes v a₀ u₀ s a u =
     (a ≤ depth (treeOf file) v) × (u ≡ ancestorAt (treeOf file) v a) × Made file tree (lineNumber tree v a) s₀ s
 
 abbrev μ-loop : tie.MeasureT-loop
-μ-loop file tree s₀ v a₀ u₀ s a u = a
+μ-loop file tree s₀ sizes v a₀ u₀ s a u = a
 
 depth-word-requires : tie.Need-depth-word-requires Inv-loop μ-loop
-depth-word-requires c κs = let st = c .before .before .before in ready-node (st .pre .1 .ready) (st .pre .0 .1)
+depth-word-requires c κs = let st = c .before .before .before .before in ready-node (st .pre .1 .0 .ready) (st .pre .0 .1)
 
 loop-holds : tie.Need-loop-holds Inv-loop μ-loop
 loop-holds c =
-    let st = c .before .before .before .before in
-    let table = st .pre .1 in
+    let st = c .before .before .before .before .before in
+    let table = st .pre .1 .0 in
     let deep = c .depth-word .ensures ∙ table .ready .words .depth _ (in-tree (table .ready .room) (st .pre .0 .1)) in
     (omega (arith, deep), climb-begins (table .ready .room) (st .pre .0 .1) deep, rw deep (made-none (node-begins _ table)))
 
@@ -35,15 +35,15 @@ sub-a c = omega arith
 parent-of-requires : tie.Need-parent-of-requires Inv-loop μ-loop
 parent-of-requires c κs =
     let l = c .before .loop in
-    let st = c .before .before .before .before .before .before in
+    let st = c .before .before .before .before .before .before .before in
     climb-record (l .inv .2 .table .ready .room) (st .pre .0 .1) (l .inv .0) (l .inv .1)
 
 fill-one-requires : tie.Need-fill-one-requires Inv-loop μ-loop
 fill-one-requires c κs =
     let l = c .before .before .before .loop in
     let more = c .before .before .loop-test .taken in
-    let st = c .before .before .before .before .before .before .before .before in
-    (next-line _ more (l .inv .2 .table), climb-up (l .inv .2 .table .ready .room) (st .pre .0 .1) (st .pre .0 .0) more (l .inv .0) (l .inv .1) (c .before .parent-of .ensures))
+    let st = c .before .before .before .before .before .before .before .before .before in
+    (next-line _ more (l .inv .2 .table), (st .pre .1 .1, climb-up (l .inv .2 .table .ready .room) (st .pre .0 .1) (st .pre .0 .0) more (l .inv .0) (l .inv .1) (c .before .parent-of .ensures)))
 
 loop-less : tie.Need-loop-less Inv-loop μ-loop
 loop-less c = omega arith
@@ -54,7 +54,7 @@ loop-again c =
     let up = one .before .before in
     let more = up .before .loop-test .taken in
     let l = up .before .before .loop in
-    let st = up .before .before .before .before .before .before .before in
+    let st = up .before .before .before .before .before .before .before .before in
     let at = climb-up (l .inv .2 .table .ready .room) (st .pre .0 .1) (st .pre .0 .0) more (l .inv .0) (l .inv .1) (up .parent-of .ensures) in
     (omega (arith, l .inv .0), at .server, made-then (l .inv .2) (line-made (next-line _ more (l .inv .2 .table)) at (one .fill-one .ensures)))
 

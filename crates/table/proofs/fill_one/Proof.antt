@@ -11,16 +11,16 @@ made-line-requires : tie.Need-made-line-requires
 made-line-requires c κs = search needs
 
 line-at-requires : tie.Need-line-at-requires
-line-at-requires c κs = let st = c .before .before .before .before .before in served-place (st .pre .0) (st .pre .1)
+line-at-requires c κs = let st = c .before .before .before .before .before .before in served-place (st .pre .0) (st .pre .1 .1)
 
 width-requires : tie.Need-width-requires
-width-requires c κs = let st = c .before .before .before .before .before .before in served-width (st .pre .0) (st .pre .1)
+width-requires c κs = let st = c .before .before .before .before .before .before .before in served-width (st .pre .0) (st .pre .1 .1)
 
 put-requires : tie.Need-put-requires
 put-requires c κs =
     let at = c .before in
-    let st = at .before .before .before .before .before .before in
-    let place = served-place (st .pre .0) (st .pre .1) in (
+    let st = at .before .before .before .before .before .before .before in
+    let place = served-place (st .pre .0) (st .pre .1 .1) in (
       omega (arith, c .width .ensures, place .budget),
       omega (arith, at .line-at .ensures, c .width .ensures, room-long (st .pre .0 .ready .room), line-within (st .args .tree) (st .args .v) (st .args .a) (place .node) (place .above)),
     )

@@ -11,18 +11,18 @@ use Rattle.table.proofs.fill_table.Statement.{statement}
 use Rattle.table.proofs.fill_table.Tie as tie
 
 abbrev Inv-loop : tie.InvT-loop
-Inv-loop file tree s₀ v₀ s v = (0 < v) × (v ≤ tree .nodes) × Made file tree (lineNumber tree v 0) s₀ s
+Inv-loop file tree s₀ sizes v₀ s v = (0 < v) × (v ≤ tree .nodes) × Made file tree (lineNumber tree v 0) s₀ s
 
 abbrev μ-loop : tie.MeasureT-loop
-μ-loop file tree s₀ v₀ s v = v
+μ-loop file tree s₀ sizes v₀ s v = v
 
 fill-empty-requires : tie.Need-fill-empty-requires Inv-loop μ-loop
-fill-empty-requires c κs = let r = c .before .before .before .pre .room in (room-place r (room-some (room-nodes r)) (omega arith), room-long r)
+fill-empty-requires c κs = let r = c .before .before .before .before .pre .0 .room in (room-place r (room-some (room-nodes r)) (omega arith), room-long r)
 
 loop-holds : tie.Need-loop-holds Inv-loop μ-loop
 loop-holds c =
-    let st = c .before .before .before .before .before .before in
-    (room-some (room-nodes (st .pre .room)), le-refl _, made-none (table-begins (st .pre) (c .before .before .fill-empty .ensures) .table))
+    let st = c .before .before .before .before .before .before .before in
+    (room-some (room-nodes (st .pre .0 .room)), le-refl _, made-none (table-begins (st .pre .0) (c .before .before .fill-empty .ensures) .table))
 
 sub-v : tie.Need-sub-v Inv-loop μ-loop
 sub-v c = omega arith
@@ -31,7 +31,8 @@ fill-node-requires : tie.Need-fill-node-requires Inv-loop μ-loop
 fill-node-requires c κs =
     let l = c .before .before .loop in
     let more = c .before .loop-test .taken in
-    ((omega (arith, more), omega (arith, more, l .inv .1)), next-node (l .inv .0) (l .inv .2 .table))
+    let st = c .before .before .before .before .before .before .before .before .before .before in
+    ((omega (arith, more), omega (arith, more, l .inv .1)), (next-node (l .inv .0) (l .inv .2 .table), st .pre .1))
 
 loop-less : tie.Need-loop-less Inv-loop μ-loop
 loop-less c = omega arith
@@ -51,9 +52,9 @@ same-length c =
 returns : tie.Need-returns Inv-loop μ-loop
 returns c =
     let l = c .before .loop in
-    let st = c .before .before .before .before .before .before .before .before in
+    let st = c .before .before .before .before .before .before .before .before .before in
     let all : l .v ≡ 1 = omega (arith, l .inv .0) in
-    table-whole (made-then (table-begins (st .pre) (c .before .before .before .before .fill-empty .ensures)) (rw all at (l .inv .2)))
+    table-whole (made-then (table-begins (st .pre .0) (c .before .before .before .before .fill-empty .ensures)) (rw all at (l .inv .2)))
 
 pub fill-table-spec : {M : Type 1} → statement M
 fill-table-spec =

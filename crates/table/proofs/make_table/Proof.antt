@@ -1,7 +1,7 @@
 -- `make_table`: the words of the nodes and all lines of the plan's table; nothing behind them is touched.
 use borrow.Author.Needs.{needs}
 use Rattle.laws.proofs.Fronts.{front-only-then}
-use Rattle.table.proofs.Room.{room-nodes}
+use Rattle.table.proofs.Room.{room-nodes, ready-words}
 use Rattle.table.proofs.Fill.{words-made, words-front}
 use Rattle.table.proofs.make_table.Statement.{statement}
 use Rattle.table.proofs.make_table.Tie as tie
@@ -9,10 +9,20 @@ use Rattle.table.proofs.make_table.Tie as tie
 note-nodes-requires : tie.Need-note-nodes-requires
 note-nodes-requires c κs = room-nodes (c .before .before .before .pre)
 
+row-sizes-requires : tie.Need-row-sizes-requires
+row-sizes-requires c κs =
+    let noted = c .before .before .before in
+    record { file = _; of-file = ready-words (words-made (noted .before .before .before .before .pre) (noted .note-nodes .ensures .0) (noted .note-nodes .ensures .1)) }
+
+slice-aggregate-fill-table : tie.Need-slice-aggregate-fill-table
+slice-aggregate-fill-table c = search needs
+
 fill-table-requires : tie.Need-fill-table-requires
 fill-table-requires c κs =
-    let noted = c .before .before .before in
-    words-made (noted .before .before .before .before .pre) (noted .note-nodes .ensures .0) (noted .note-nodes .ensures .1)
+    let sized = c .before .before in
+    let noted = sized .before .before .before .before in
+    let ready = words-made (noted .before .before .before .before .pre) (noted .note-nodes .ensures .0) (noted .note-nodes .ensures .1) in
+    (ready, sized .row-sizes .ensures _ (ready-words ready))
 
 same-length : tie.Need-same-length
 same-length c = search needs
@@ -20,9 +30,17 @@ same-length c = search needs
 returns : tie.Need-returns
 returns c =
     let filled = c .before .before in
-    let noted = filled .before .before .before .before in
+    let noted = filled .before .before .before .before .before .before .before in
     let made = filled .fill-table .ensures in
     record { table = made .table; front = front-only-then _ (words-front (noted .before .before .before .before .pre) (noted .note-nodes .ensures .1)) (made .front) }
 
 pub make-table-spec : {M : Type 1} → statement M
-make-table-spec = tie.close (tie.spec note-nodes-requires fill-table-requires same-length returns)
+make-table-spec =
+    tie.close
+    (tie.spec
+    note-nodes-requires
+    row-sizes-requires
+    slice-aggregate-fill-table
+    fill-table-requires
+    same-length
+    returns)
