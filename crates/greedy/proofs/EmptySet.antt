@@ -1,4 +1,4 @@
--- The total of the empty set: each client's whole flow over its distance.
+-- The empty set: the server serves every client, so the total is each client's whole flow over its distance.
 use mathlib.Core.Path.{_≡_, refl, ap, _∙_}
 use mathlib.Core.List.{List, []}
 use Prim.Native.Nat.{ℕ, suc, _+_, _*_, _-_, _≤_, _<_, _^_}
@@ -16,6 +16,7 @@ use Rattle.model.proofs.Accepted.{Sound}
 use Rattle.model.proofs.Bounds.{total-bound}
 use Rattle.node_words.specs.Words.{distanceWord, wordOf}
 use Rattle.node_words.proofs.Words.{room-sound}
+use Rattle.greedy.specs.Savings.{servingDistance}
 use Rattle.greedy.specs.Words.{Ready}
 
 -- the server serves every client
@@ -23,6 +24,10 @@ serving-of-none : (t : Tree) → Preorder t → (v : ℕ) → serving t [] v ≡
 unfolding has
 serving-of-none t pre =
     by-route t pre (λ v. serving t [] v ≡ 0) (serving-server t pre []) (λ i h. serving-up t pre [] i ∙ h)
+
+pub serving-distance-none : (t : Tree) (d : Demand) → Sound t d → (v : ℕ) → servingDistance t [] v ≡ 0
+unfolding servingDistance
+serving-distance-none t d ok v = ap (distance t) (serving-of-none t (ok .preorder) v) ∙ distance-server t (ok .server)
 
 cost-of-none : (t : Tree) (d : Demand) → Sound t d → (c : ℕ) → d .flow c * thousandths * distance t c ≡ cost t d [] c
 unfolding price

@@ -4,8 +4,10 @@ pub mod Gathered
 pub mod Steps
 mod Words
 mod Passes
-mod BestSite
 mod EmptySet
+mod OneMore
+mod TakeSite
+mod BestSite
 mod Turns
 mod Runs
 pub mod Answers

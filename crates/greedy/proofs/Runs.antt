@@ -1,7 +1,9 @@
 -- The loop over the budget: the words, the total and both buffers after b steps.
 use mathlib.Core.Path.{_≡_, refl, sym, ap, _∙_}
-use mathlib.Core.List.{List, [], _∷_, map}
-use Prim.Native.Nat.{ℕ, suc, _+_, _*_, _-_, _≤_, _<_}
+use mathlib.Core.Bool.{false}
+use mathlib.Core.List.{List, [], map}
+use Prim.Native.Nat.{ℕ, zero, suc, _+_, _*_, _-_, _≤_, _<_}
+use native.Mathlib.Nat.{add-zero}
 use native.Mathlib.Numerals.{add-one}
 use native.Mathlib.Omega.{arith}
 use lib.ListN.{length, set, getD}
@@ -9,121 +11,183 @@ use lib.Seq.{sets, length-sets}
 use Rattle.laws.specs.Lists.{range, has}
 use Rattle.laws.specs.FirstGreatest.{FirstGreatest}
 use Rattle.laws.specs.Fronts.{FrontOnly}
-use Rattle.laws.proofs.Lists.{map-of-range-shift, entries-padded}
+use Rattle.laws.proofs.Lists.{entries-padded}
 use Rattle.laws.proofs.Fronts.{front-only-then}
 use Rattle.laws.proofs.Stores.{sets-front, loop-begins, loop-turns}
-use Rattle.model.specs.File.{treeOf, demandOf, budgetOf, mostBudget}
+use Rattle.model.specs.File.{Tree, Demand, treeOf, demandOf, budgetOf, mostBudget}
 use Rattle.model.specs.Bill.{total}
 use Rattle.model.specs.Greedy.{withNode, greedyNodes, greedySet, greedyTotal}
 use Rattle.model.specs.Calls.{greedyTotals, greedyRow}
-use Rattle.model.proofs.Accepted.{accepted-header}
+use Rattle.model.proofs.Accepted.{Sound, accepted-header}
 use Rattle.model.proofs.GreedyRuns.{greedy-runs}
 use Rattle.model.proofs.Written.{length-greedy-totals, length-greedy-row}
-use Rattle.node_words.specs.Words.{wordAt, NodeRoom, Measured}
+use Rattle.node_words.specs.Words.{NodeRoom, Measured}
 use Rattle.node_words.proofs.Words.{room-sound, room-kept}
 use Rattle.greedy.specs.Savings.{saving}
-use Rattle.greedy.specs.Words.{markWord, marked, Wrote, Ready, Kept, Prepared}
-use Rattle.greedy.specs.Run.{Granted, Ran}
-use Rattle.greedy.proofs.Words.{wrote-none, wrote-at, marked-none, marked-more, marked-server, ready-kept}
-use Rattle.greedy.proofs.Turns.{greedy-begins, found-node, found-within, found-total, found-set}
+use Rattle.greedy.specs.Words.{servedWord, markWord, marked, savingWord, Wrote, Ready, Current, Gathers, Prepared, Free, Took}
+use Rattle.greedy.specs.Run.{Granted, Filled, Ran}
+use Rattle.greedy.proofs.EmptySet.{serving-distance-none}
+use Rattle.greedy.proofs.Words.{marks-kept, marked-none, ready-kept}
+use Rattle.greedy.proofs.BestSite.{search-finds-site}
+use Rattle.greedy.proofs.Turns.{greedy-begins, found-none, found-node, found-set, found-within, found-total}
 
 -- ---- before the first step
 
-pub prepared : {file : List ℕ} {n : ℕ} {s r l : List ℕ} → NodeRoom file n s → Measured (treeOf file) r n → FrontOnly (4 * n) s r
-    → Wrote n markWord (λ _. 0) n r l → Prepared file n s l
-prepared {n = n} {l = l} room measured front cleared =
-    record {
-      ready = ready-kept (λ q. omega arith) (record { room = room-kept room front; distances = measured .first }) cleared;
-      marks = marked-none n l (cleared .held);
-      front = front-only-then (4 * n) front (cleared .front);
-    }
+module _ {file : List ℕ} {n : ℕ} {s r p q l : List ℕ} (room : NodeRoom file n s) (measured : Measured (treeOf file) r n) (front : FrontOnly (4 * n) s r)
+    (served : Wrote n servedWord (λ _. 0) n r p) (cleared : Wrote n markWord (λ _. 0) n p q) (reached : Gathers file n q l) where
+  none-marked : marked n l ≡ []
+  none-marked = marks-kept n (λ e. omega arith) reached ∙ marked-none n q (cleared .held)
+
+  pub prepared : Prepared file n s l
+  prepared =
+      let first : Ready file n r = record { room = room-kept room front; distances = measured .first } in
+      record {
+        current = record {
+          ready = ready-kept (λ e. omega arith) (ready-kept (λ e. omega arith) (ready-kept (λ e. omega arith) first served) cleared) reached;
+          served = λ v h. rw none-marked
+              (reached .others v servedWord (omega arith) (λ e. omega arith)
+              ∙ cleared .others v servedWord (omega arith) (λ e. omega arith)
+              ∙ served .held v h
+              ∙ sym (serving-distance-none (treeOf file) (demandOf file) (room-sound room) v));
+          reached = λ v h. rw none-marked (reached .held v h);
+        };
+        marks = none-marked;
+        front = front-only-then (4 * n) front (front-only-then (4 * n) (served .front) (front-only-then (4 * n) (cleared .front) (reached .front)));
+      }
 
 -- ---- the set and its total
 
--- after b steps the sites taken are marked, and the total is theirs
+-- after b steps the sites taken are marked, the words say what holds with them, and the total is theirs
 pub record Standing (file : List ℕ) (n : ℕ) (words : List ℕ) (sum b : ℕ) : Type 0 where
-  pub ready : Ready file n words
+  pub current : Current file n words
   pub marks : marked n words ≡ greedySet (treeOf file) (demandOf file) b
   pub total : sum ≡ greedyTotal (treeOf file) (demandOf file) b
 
-pub standing-first : {file : List ℕ} {n : ℕ} {words : List ℕ} {sum : ℕ} → Ready file n words → marked n words ≡ []
+pub standing-first : {file : List ℕ} {n : ℕ} {words : List ℕ} {sum : ℕ} → Current file n words → marked n words ≡ []
     → sum ≡ total (treeOf file) (demandOf file) [] → Standing file n words sum 0
-standing-first {file} ready marks e =
+standing-first {file} now marks e =
     let none = greedy-begins (treeOf file) (demandOf file) in
-    record { ready = ready; marks = rw none marks; total = rw none e }
+    record { current = now; marks = rw none marks; total = rw none e }
 
-module _ {file : List ℕ} {n k : ℕ} {s r : List ℕ} {sum b site most : ℕ} (st : Standing file n s sum b) (h : b < k)
-    (finds : FirstGreatest (has (marked n s)) (saving (treeOf file) (demandOf file) (marked n s)) n site most) (kept : Kept file n s r) where
-  found : FirstGreatest (has (greedySet (treeOf file) (demandOf file) b)) (saving (treeOf file) (demandOf file) (greedySet (treeOf file) (demandOf file) b)) (treeOf file .count) site most
-  found = rw (st .marks, st .ready .room .count) at finds
+module _ {file : List ℕ} {n k : ℕ} {s : List ℕ} {sum b site most : ℕ} (st : Standing file n s sum b) (h : b < k)
+    (finds : FirstGreatest (λ _. false) (savingWord s) n site most) where
+  abbrev t : Tree
+  t = treeOf file
 
-  pub step-node : site ≡ getD (greedyNodes (treeOf file) (demandOf file) k) b 0
-  step-node = let ok = room-sound (st .ready .room) in found-node (treeOf file) (demandOf file) k b h (ok .preorder) (ok .hit) found
+  abbrev d : Demand
+  d = demandOf file
 
-  pub step-within : most ≤ sum
-  step-within = let ok = room-sound (st .ready .room) in omega (arith, st .total, found-within (treeOf file) (demandOf file) k b h (ok .preorder) (ok .hit) found)
+  ok : Sound t d
+  ok = room-sound (st .current .ready .room)
 
-  pub step-total : {left : ℕ} → left ≡ sum - most → left ≡ greedyTotal (treeOf file) (demandOf file) (suc b)
-  step-total e = let ok = room-sound (st .ready .room) in omega (arith, st .total, found-total (treeOf file) (demandOf file) k b h (ok .preorder) (ok .hit) found)
+  outside : FirstGreatest (has (marked n s)) (saving t d (marked n s)) n site most
+  outside = search-finds-site (st .current) finds
 
-  module _ {l : List ℕ} (el : l ≡ set r (wordAt site markWord) 1) where
-    stored : Wrote n markWord (λ _. 1) 0 r l
-    stored =
-        wrote-at n markWord (λ _. 1) site 0 1 (omega arith) (finds .below) (kept .ready .room .room) (wrote-none n markWord (λ _. 1) r) el refl
-        (λ u less. absurd (omega arith))
+  found : FirstGreatest (has (greedySet t d b)) (saving t d (greedySet t d b)) (t .count) site most
+  found = rw (st .marks, st .current .ready .room .count) at outside
 
-    pub step-front : FrontOnly (4 * n) s l
-    step-front = front-only-then (4 * n) (kept .front) (stored .front)
+  -- where no site saves, every later step leaves the total and takes no node
+  pub step-rests : most ≡ 0 → (j : ℕ) → b ≤ j → j < k → (0 ≡ getD (greedyNodes t d k) j 0) × (sum ≡ greedyTotal t d (suc j))
+  step-rests e j from to =
+      let none = found-none t d k b h (ok .preorder) (ok .hit) found e j from to in
+      (none .0, st .total ∙ sym (none .1))
 
-    pub step-stands : {left : ℕ} → left ≡ sum - most → Standing file n l left (b + 1)
-    step-stands e =
-        let ok = room-sound (st .ready .room) in
-        let before = kept .marks ∙ st .marks in
-        let room = kept .ready .room .room in
+  module _ (saves : 0 < most) where
+    pub step-free : Free n site s
+    step-free = let here = outside .held saves in record { site = here .0; below = outside .below; outside = here .1 }
+
+    pub step-node : site ≡ getD (greedyNodes t d k) b 0
+    step-node = found-node t d k b h (ok .preorder) (ok .hit) found saves
+
+    pub step-within : most ≤ sum
+    step-within = omega (arith, st .total, found-within t d k b h (ok .preorder) (ok .hit) found saves)
+
+    pub step-total : {left : ℕ} → left ≡ sum - most → left ≡ greedyTotal t d (suc b)
+    step-total e = omega (arith, st .total, found-total t d k b h (ok .preorder) (ok .hit) found saves)
+
+    pub step-stands : {l : List ℕ} {left : ℕ} → Took file n site s l → left ≡ sum - most → Standing file n l left (b + 1)
+    step-stands took e =
         rw (add-one b)
         (record {
-          ready = ready-kept (λ q. omega arith) (kept .ready) stored;
-          marks = rw el (found-set (treeOf file) (demandOf file) k b h (ok .preorder) (ok .hit) found _
-              (λ a lacks. marked-more n r site room (finds .below) a (rw before lacks) ∙ ap (withNode site) before)
-              (λ z. marked-server n r site room (finds .below) z ∙ before));
+          current = took .current;
+          marks = took .marks ∙ ap (withNode site) (st .marks) ∙ sym (found-set t d k b h (ok .preorder) (ok .hit) found saves);
           total = step-total e;
         })
 
 -- ---- both buffers
 
--- the totals after step 1 to step b, and the b nodes taken, 0 where none was
+-- the totals up to that after step b, and the nodes of b steps, 0 where none was taken
 pub record Written (file : List ℕ) (k b : ℕ) (totals taken totals′ taken′ : List ℕ) : Type 0 where
-  pub totalsWritten : totals′ ≡ sets totals 1 (map (λ j. greedyTotal (treeOf file) (demandOf file) (suc j)) (range 0 b))
+  pub totalsWritten : totals′ ≡ sets totals 0 (map (greedyTotal (treeOf file) (demandOf file)) (range 0 (suc b)))
   pub takenWritten : taken′ ≡ sets taken 0 (map (λ j. getD (greedyNodes (treeOf file) (demandOf file) k) j 0) (range 0 b))
 
 module _ {file : List ℕ} {k : ℕ} {totals taken : List ℕ} where
-  pub written-none : Written file k 0 totals taken totals taken
-  written-none = record { totalsWritten = loop-begins totals 1 _; takenWritten = loop-begins taken 0 _ }
+  pub written-first : {sum : ℕ} {first : List ℕ} → sum ≡ total (treeOf file) (demandOf file) [] → first ≡ set totals 0 sum
+      → Written file k 0 totals taken first taken
+  written-first es ef =
+      record {
+        totalsWritten = ef ∙ loop-turns totals 0 _ 0 (loop-begins totals 0 _) refl (es ∙ ap (total (treeOf file) (demandOf file)) (sym (greedy-begins (treeOf file) (demandOf file))));
+        takenWritten = loop-begins taken 0 _;
+      }
 
   pub written-next : {b x y : ℕ} {totals′ taken′ totals″ taken″ : List ℕ} → Written file k b totals taken totals′ taken′
       → x ≡ greedyTotal (treeOf file) (demandOf file) (suc b) → y ≡ getD (greedyNodes (treeOf file) (demandOf file) k) b 0
       → totals″ ≡ set totals′ (b + 1) x → taken″ ≡ set taken′ b y → Written file k (b + 1) totals taken totals″ taken″
   written-next {b = b} w ex ey et en =
       record {
-        totalsWritten = et ∙ loop-turns totals 1 _ b (w .totalsWritten) (omega arith) ex;
+        totalsWritten = et ∙ rw (add-one b, ← add-one (suc b)) (loop-turns totals 0 _ (suc b) (w .totalsWritten) (omega arith) ex);
         takenWritten = en ∙ loop-turns taken 0 _ b (w .takenWritten) (omega arith) ey;
       }
+
+  -- where the total stays and no node is taken, i steps more
+  written-more : {b sum : ℕ} {totals′ taken′ : List ℕ} → Written file k b totals taken totals′ taken′
+      → ((j : ℕ) → b ≤ j → j < k → (0 ≡ getD (greedyNodes (treeOf file) (demandOf file) k) j 0) × (sum ≡ greedyTotal (treeOf file) (demandOf file) (suc j)))
+      → (i : ℕ) → b + i ≤ k
+      → Written file k (b + i) totals taken (sets totals′ (b + 1) (map (λ _. sum) (range 0 i))) (sets taken′ b (map (λ _. 0) (range 0 i)))
+  written-more {b = b} {sum = sum} {totals′ = totals′} {taken′ = taken′} w same zero h =
+      rw (add-zero b, ← loop-begins totals′ (b + 1) (λ _. sum), ← loop-begins taken′ b (λ _. 0)) w
+  written-more {b = b} {sum = sum} {totals′ = totals′} {taken′ = taken′} w same (suc i) h =
+      let here = same (b + i) (omega arith) (omega arith) in
+      let next : b + suc i ≡ b + i + 1 = omega arith in
+      rw (next, ← add-one i)
+      (written-next (written-more w same i (omega arith)) (here .1) (here .0)
+      (sym (loop-turns totals′ (b + 1) (λ _. sum) i refl (omega arith) refl)) (sym (loop-turns taken′ b (λ _. 0) i refl refl refl)))
+
+  pub written-rest : {b sum : ℕ} {totals′ taken′ totals″ taken″ : List ℕ} → Written file k b totals taken totals′ taken′
+      → ((j : ℕ) → b ≤ j → j < k → (0 ≡ getD (greedyNodes (treeOf file) (demandOf file) k) j 0) × (sum ≡ greedyTotal (treeOf file) (demandOf file) (suc j)))
+      → b ≤ k → Filled b k sum totals′ taken′ totals″ taken″ → Written file k k totals taken totals″ taken″
+  written-rest {b = b} w same h filled =
+      let all : b + (k - b) ≡ k = omega arith in
+      rw (filled .totalsFilled, filled .takenFilled) (rw all at (written-more w same (k - b) (omega arith)))
 
   pub written-long : {b : ℕ} {totals′ taken′ : List ℕ} → Written file k b totals taken totals′ taken′
       → (length totals′ ≡ length totals) × (length taken′ ≡ length taken)
   written-long w = (ap length (w .totalsWritten) ∙ simp length-sets, ap length (w .takenWritten) ∙ simp length-sets)
 
+-- ---- the steps that are left where none saves
+
+module _ {b sum : ℕ} {totals taken : List ℕ} where
+  pub filled-none : Filled b b sum totals taken totals taken
+  filled-none =
+      let none : b - b ≡ 0 = omega arith in
+      record { totalsFilled = rw none (loop-begins totals (b + 1) _); takenFilled = rw none (loop-begins taken b _) }
+
+  pub filled-next : {j : ℕ} {totals′ taken′ totals″ taken″ : List ℕ} → b ≤ j → Filled b j sum totals taken totals′ taken′
+      → totals″ ≡ set totals′ (j + 1) sum → taken″ ≡ set taken′ j 0 → Filled b (j + 1) sum totals taken totals″ taken″
+  filled-next {j = j} h f et en =
+      let one : j + 1 - b ≡ j - b + 1 = omega arith in
+      record {
+        totalsFilled = et ∙ rw one (loop-turns totals (b + 1) _ (j - b) (f .totalsFilled) (omega arith) refl);
+        takenFilled = en ∙ rw one (loop-turns taken b _ (j - b) (f .takenFilled) (omega arith) refl);
+      }
+
+  pub filled-long : {j : ℕ} {totals′ taken′ : List ℕ} → Filled b j sum totals taken totals′ taken′
+      → (length totals′ ≡ length totals) × (length taken′ ≡ length taken)
+  filled-long f = (ap length (f .totalsFilled) ∙ simp length-sets, ap length (f .takenFilled) ∙ simp length-sets)
+
 -- ---- after the last step
 
 module _ (file : List ℕ) where
-  totals-in-turn : greedyTotals file
-      ≡ total (treeOf file) (demandOf file) [] ∷ map (λ j. greedyTotal (treeOf file) (demandOf file) (suc j)) (range 0 (budgetOf file))
-  unfolding greedyTotals range
-  totals-in-turn =
-      let f = greedyTotal (treeOf file) (demandOf file) in
-      ap (λ l. f 0 ∷ l) (map-of-range-shift f 0 (budgetOf file))
-      ∙ ap (λ k. total (treeOf file) (demandOf file) k ∷ map (λ j. f (suc j)) (range 0 (budgetOf file))) (greedy-begins (treeOf file) (demandOf file))
-
   nodes-in-turn : greedyRow file ≡ map (λ j. getD (greedyNodes (treeOf file) (demandOf file) (budgetOf file)) j 0) (range 0 (budgetOf file))
   unfolding greedyRow
   nodes-in-turn =
@@ -133,20 +197,17 @@ module _ (file : List ℕ) where
 pub budget-small : {file : List ℕ} {n k : ℕ} {words totals taken : List ℕ} → Granted file n k words totals taken → k ≤ mostBudget
 budget-small {file} granted = omega (arith, granted .budget, accepted-header file (granted .room .accepted) .budget)
 
-pub run-ends : {file : List ℕ} {n k b : ℕ} {words totals taken words′ first totals′ taken′ : List ℕ} {sum : ℕ} → Granted file n k words totals taken
-    → FrontOnly (4 * n) words words′ → sum ≡ total (treeOf file) (demandOf file) [] → first ≡ set totals 0 sum
-    → Written file k b first taken totals′ taken′ → b ≡ k → Ran file n words totals taken words′ totals′ taken′
-run-ends {file} {totals = totals} {taken = taken} granted front es ef w all =
-    let written = rw (all, granted .budget, ef, es) at w in
-    let k = granted .budget in
+pub run-ends : {file : List ℕ} {n k b : ℕ} {words totals taken words′ totals′ taken′ : List ℕ} → Granted file n k words totals taken
+    → FrontOnly (4 * n) words words′ → Written file k b totals taken totals′ taken′ → b ≡ k → Ran file n words totals taken words′ totals′ taken′
+unfolding greedyTotals
+run-ends {file} {totals = totals} {taken = taken} granted front w all =
+    let written = rw (all, granted .budget) at w in
     record {
       front = front;
-      totalsAfter = written .totalsWritten
-          ∙ ap (sets totals 0) (sym (totals-in-turn file))
-          ∙ sets-front totals (greedyTotals file) (omega (arith, length-greedy-totals file, granted .totalsLong));
+      totalsAfter = written .totalsWritten ∙ sets-front totals (greedyTotals file) (omega (arith, length-greedy-totals file, granted .totalsLong, granted .budget));
       takenAfter = written .takenWritten
           ∙ ap (sets taken 0) (sym (nodes-in-turn file))
-          ∙ sets-front taken (greedyRow file) (omega (arith, length-greedy-row file, granted .takenLong));
+          ∙ sets-front taken (greedyRow file) (omega (arith, length-greedy-row file, granted .takenLong, granted .budget));
     }
 
 -- what was prepared before counts as part of the run

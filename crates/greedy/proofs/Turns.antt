@@ -1,6 +1,5 @@
 -- A run of the greedy rule, step by step: what the next step adds to the nodes, the set and the total.
 use mathlib.Core.Path.{_≡_, refl, sym, ap, _∙_}
-use mathlib.Core.Bool.{false}
 use mathlib.Core.List.{List, [], _∷_, _++_}
 use Prim.Native.Nat.{ℕ, suc, _-_, _≤_, _<_}
 use native.Mathlib.Decide.{decLt}
@@ -56,49 +55,39 @@ module _ (t : Tree) (d : Demand) where
         let e : x ≡ getD g b 0 = only-takes t d p (step-here l) in
         (e, rw (set-after (suc b) (omega arith), take-suc g b 0 l, with-nodes-snoc [] (take b g) (getD g b 0), ← e, ← set-after b (omega arith)))
 
-    -- no node lowers the total: the run has ended
-    step-rested : Rests t d (greedySet t d b) → (0 ≡ getD g b 0) × (greedySet t d (suc b) ≡ greedySet t d b)
-    step-rested p =
+    -- no node lowers the total: the run has ended, and every later step finds the same set
+    run-rested : Rests t d (greedySet t d b) → (j : ℕ) → b ≤ j → j < k → (0 ≡ getD g j 0) × (greedySet t d (suc j) ≡ greedySet t d b)
+    run-rested p j from to =
         let short : length g ≤ b = elim (decLt b (length g)) [
           | yes l ↦ absurd (takes-not-rests t d (step-here l) p)
           | no l ↦ omega arith
         ] in (
-          sym (List·getD-eq-default g 0 short),
-          rw (set-after (suc b) (omega arith), set-after b (omega arith), take-all (suc b) g (omega arith), take-all b g short),
+          sym (List·getD-eq-default g 0 (omega arith)),
+          rw (set-after (suc j) (omega arith), set-after b (omega arith), take-all (suc j) g (omega arith), take-all b g short),
         )
 
     -- ---- by a search
 
     module _ (pre : Preorder t) (hits : (c : ℕ) → d .hit c ≤ thousandths) {site most : ℕ}
         (found : FirstGreatest (has (greedySet t d b)) (saving t d (greedySet t d b)) (t .count) site most) where
-      -- what holds where a site is taken, and where none is, holds after the search
-      by-step : (P : Type 0)
-          → (0 < most → Takes t d (greedySet t d b) site → P) → (most ≡ 0 → site ≡ 0 → Rests t d (greedySet t d b) → P) → P
-      by-step P taking resting =
-          elim (decLt 0 most) [
-            | yes l ↦ taking l (search-takes t d pre hits (greedySet t d b) site most found l)
-            | no l ↦ let z : most ≡ 0 = omega arith in
-                resting z (found .idle z) (search-rests t d pre hits (greedySet t d b) site most found z)
-          ]
+      -- where no site saves
+      pub found-none : most ≡ 0 → (j : ℕ) → b ≤ j → j < k → (0 ≡ getD g j 0) × (greedyTotal t d (suc j) ≡ greedyTotal t d b)
+      found-none e j from to =
+          let rested = run-rested (search-rests t d pre hits (greedySet t d b) site most found e) j from to in
+          (rested .0, ap (total t d) (rested .1))
 
-      pub found-node : site ≡ getD g b 0
-      found-node = by-step (site ≡ getD g b 0) (λ _ p. step-taken p .0) (λ _ z p. z ∙ step-rested p .0)
+      module _ (saves : 0 < most) where
+        takes-found : Takes t d (greedySet t d b) site
+        takes-found = search-takes t d pre hits (greedySet t d b) site most found saves
 
-      pub found-within : most ≤ greedyTotal t d b
-      found-within =
-          by-step (most ≤ greedyTotal t d b)
-          (λ l _. let e = found .held l .2 in omega (arith, saving-within-total t d pre hits (greedySet t d b) site))
-          (λ z _ _. omega arith)
+        pub found-node : site ≡ getD g b 0
+        found-node = step-taken takes-found .0
 
-      pub found-total : greedyTotal t d (suc b) ≡ greedyTotal t d b - most
-      found-total =
-          by-step (greedyTotal t d (suc b) ≡ greedyTotal t d b - most)
-          (λ l p. ap (total t d) (step-taken p .1) ∙ search-total t d pre hits (greedySet t d b) site most found l)
-          (λ z _ p. omega (arith, ap (total t d) (step-rested p .1)))
+        pub found-set : greedySet t d (suc b) ≡ withNode site (greedySet t d b)
+        found-set = step-taken takes-found .1
 
-      -- the set after the step, for one that grows by a site and stays by the server
-      pub found-set : (more : List ℕ) → (1 ≤ site → has (greedySet t d b) site ≡ false → more ≡ withNode site (greedySet t d b))
-          → (site ≡ 0 → more ≡ greedySet t d b) → more ≡ greedySet t d (suc b)
-      found-set more grows stays =
-          by-step (more ≡ greedySet t d (suc b)) (λ _ p. grows (p .site .0) (p .outside) ∙ sym (step-taken p .1))
-          (λ _ z p. stays z ∙ sym (step-rested p .1))
+        pub found-within : most ≤ greedyTotal t d b
+        found-within = let e = found .held saves .2 in omega (arith, saving-within-total t d pre hits (greedySet t d b) site)
+
+        pub found-total : greedyTotal t d (suc b) ≡ greedyTotal t d b - most
+        found-total = ap (total t d) found-set ∙ search-total t d pre hits (greedySet t d b) site most found saves

@@ -97,12 +97,6 @@ module _ (n : ℕ) where
         (ascends-with-node n 0 x (marked n s) site below lacks (marked-is-set s))
         (λ v h k. has-more v h k ∙ sym (has-with-node x v (marked n s)))
 
-    -- the server is no site
-    pub marked-server : x ≡ 0 → marked n more ≡ marked n s
-    marked-server z =
-        same-members n 0 (marked n more) (marked n s) (marked-is-set more) (marked-is-set s)
-        (λ v h k. rw (has-more v h k, ne-eqb x v (λ e. omega arith)))
-
 -- ---- the distances
 
 -- they stay where words of another kind are written

@@ -1,8 +1,10 @@
 -- What a run of the greedy rule is lent, and what it leaves.
 use mathlib.Core.Path.{_≡_}
-use mathlib.Core.List.{List}
-use Prim.Native.Nat.{ℕ, _+_, _*_, _≤_}
+use mathlib.Core.List.{List, map}
+use Prim.Native.Nat.{ℕ, _+_, _*_, _-_, _≤_}
 use lib.ListN.{length}
+use lib.Seq.{sets}
+use Rattle.laws.specs.Lists.{range}
 use Rattle.laws.specs.Fronts.{FrontOnly}
 use Rattle.model.specs.File.{budgetOf}
 use Rattle.model.specs.Rules.{passed}
@@ -15,6 +17,11 @@ pub record Granted (file : List ℕ) (n k : ℕ) (words totals taken : List ℕ)
   pub budget : k ≡ budgetOf file
   pub totalsLong : k + 1 ≤ length totals
   pub takenLong : k ≤ length taken
+
+-- from step b on every total is `sum`, and no node is taken
+pub record Filled (b k sum : ℕ) (totals taken totals′ taken′ : List ℕ) : Type 0 where
+  pub totalsFilled : totals′ ≡ sets totals (b + 1) (map (λ _. sum) (range 0 (k - b)))
+  pub takenFilled : taken′ ≡ sets taken b (map (λ _. 0) (range 0 (k - b)))
 
 -- the greedy rule's totals and nodes stand in their buffers, and of the scratch only the words of the nodes were used
 pub record Ran (file : List ℕ) (n : ℕ) (words totals taken words′ totals′ taken′ : List ℕ) : Type 0 where

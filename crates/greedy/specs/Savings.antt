@@ -1,9 +1,10 @@
--- What a cache at a node would save, and how one pass over the nodes from the last down finds the flow that reaches each.
-use mathlib.Core.Bool.{Bool, _&&_, not}
-use mathlib.Core.List.{List}
+-- What a cache at a node would save, and how one pass over the nodes from the last down finds the flow that reaches each before a
+-- site is taken.
+use mathlib.Core.Bool.{Bool}
+use mathlib.Core.List.{List, []}
 use Prim.Native.Nat.{ℕ, _+_, _*_, _-_}
 use lib.Dec.{eqb}
-use Rattle.laws.specs.Lists.{range, sum, has, those}
+use Rattle.laws.specs.Lists.{range, sum, those}
 use Rattle.model.specs.File.{Tree, Demand, mostNodes, mostFlow, mostHit}
 use Rattle.model.specs.Tree.{nodes, distance}
 use Rattle.model.specs.Bill.{serving}
@@ -26,10 +27,6 @@ module _ (t : Tree) where
   unfoldable pub servingDistance : List ℕ → ℕ → ℕ
   servingDistance k v = distance t (serving t k v)
 
-  -- is u a child of p, and outside K? Then what reaches u reaches p.
-  unfoldable pub passesOn : List ℕ → ℕ → ℕ → Bool
-  passesOn k p u = eqb p (t .parent u) && not (has k u)
-
 module _ (t : Tree) (d : Demand) where
   -- the cachable flow at or below x that meets no cache before x
   unfoldable pub reach : List ℕ → ℕ → ℕ
@@ -40,6 +37,6 @@ module _ (t : Tree) (d : Demand) where
   saving k x = (distance t x - servingDistance t k x) * reach k x
 
   -- what the pass down has put at p once it has passed nodes i to n − 1: p's own cachable flow, and what reaches those of
-  -- its children that were passed and are outside K
-  unfoldable pub gathered : List ℕ → ℕ → ℕ → ℕ
-  gathered k i p = cachable d p + sum (reach k) (those (passesOn t k p) (range i (t .count - i)))
+  -- its children that were passed
+  unfoldable pub gathered : ℕ → ℕ → ℕ
+  gathered i p = cachable d p + sum (reach []) (those (λ u. eqb p (t .parent u)) (range i (t .count - i)))

@@ -1,19 +1,18 @@
 -- What the scratch holds of each node while the greedy rule runs: its distance, the distance of its serving node, the flow that
 -- reaches it, and a mark where it is taken.
 use mathlib.Core.Path.{_≡_}
-use mathlib.Core.Bool.{cond}
+use mathlib.Core.Bool.{false, cond}
 use mathlib.Core.List.{List, []}
 use Prim.Native.Nat.{ℕ, _*_, _-_, _≤_, _<_, _^_}
 use lib.Dec.{eqb}
 use lib.ListN.{length}
 use Rattle.laws.specs.Lists.{range, has, those}
 use Rattle.laws.specs.Fronts.{FrontOnly}
-use Rattle.laws.specs.FirstGreatest.{FirstGreatest}
 use Rattle.model.specs.File.{Tree, treeOf, demandOf}
 use Rattle.model.specs.Tree.{distance}
+use Rattle.model.specs.Greedy.{withNode}
 use Rattle.node_words.specs.Words.{distanceWord, wordOf, NodeRoom}
-use Rattle.greedy.specs.Savings.{servingDistance, reach, saving, gathered}
-use Rattle.greedy.specs.declared.Found.{Found}
+use Rattle.greedy.specs.Savings.{servingDistance, reach, gathered}
 
 abbrev pub servedWord : ℕ
 servedWord = 1
@@ -48,21 +47,33 @@ pub record Ready (file : List ℕ) (n : ℕ) (words : List ℕ) : Type 0 where
   pub room : NodeRoom file n words
   pub distances : (v : ℕ) → v < n → wordOf words v distanceWord ≡ distance (treeOf file) v
 
--- the serving distances of all nodes are written
-abbrev pub Serves : List ℕ → ℕ → List ℕ → List ℕ → Type 0
-Serves file n old new = Wrote n servedWord (servingDistance (treeOf file) (marked n old)) n old new
+-- and the words of each node say how far its serving node is and what reaches it, with caches at the marked sites
+pub record Current (file : List ℕ) (n : ℕ) (words : List ℕ) : Type 0 where
+  pub ready : Ready file n words
+  pub served : (v : ℕ) → v < n → wordOf words v servedWord ≡ servingDistance (treeOf file) (marked n words) v
+  pub reached : (v : ℕ) → v < n → wordOf words v reachWord ≡ reach (treeOf file) (demandOf file) (marked n words) v
+
+-- ---- before the first step
 
 -- at each node stands what is gathered once nodes v to n − 1 were passed
 abbrev pub PassedFrom : List ℕ → ℕ → ℕ → List ℕ → Type 0
-PassedFrom file n v words = (p : ℕ) → p < n → wordOf words p reachWord ≡ gathered (treeOf file) (demandOf file) (marked n words) v p
+PassedFrom file n v words = (p : ℕ) → p < n → wordOf words p reachWord ≡ gathered (treeOf file) (demandOf file) v p
 
 -- and that is written
 abbrev pub Passes : List ℕ → ℕ → ℕ → List ℕ → List ℕ → Type 0
-Passes file n v old new = Wrote n reachWord (gathered (treeOf file) (demandOf file) (marked n old) v) n old new
+Passes file n v = Wrote n reachWord (gathered (treeOf file) (demandOf file) v) n
 
--- the flow that reaches each node is written
+-- the flow that reaches each node where no site is taken is written
 abbrev pub Gathers : List ℕ → ℕ → List ℕ → List ℕ → Type 0
-Gathers file n old new = Wrote n reachWord (reach (treeOf file) (demandOf file) (marked n old)) n old new
+Gathers file n = Wrote n reachWord (reach (treeOf file) (demandOf file) []) n
+
+-- no site is taken, and the words say so
+pub record Prepared (file : List ℕ) (n : ℕ) (old new : List ℕ) : Type 0 where
+  pub current : Current file n new
+  pub marks : marked n new ≡ []
+  pub front : FrontOnly (4 * n) old new
+
+-- ---- a step
 
 -- the savings of n nodes can be worked out
 pub record Weighed (n : ℕ) (words : List ℕ) : Type 0 where
@@ -71,20 +82,26 @@ pub record Weighed (n : ℕ) (words : List ℕ) : Type 0 where
   pub near : (v : ℕ) → v < n → wordOf words v servedWord ≤ wordOf words v distanceWord
   pub small : (v : ℕ) → v < n → savingWord words v < 2 ^ 64
 
--- the marked nodes and the distances stay
-pub record Kept (file : List ℕ) (n : ℕ) (old new : List ℕ) : Type 0 where
-  pub ready : Ready file n new
-  pub marks : marked n new ≡ marked n old
-  pub front : FrontOnly (4 * n) old new
+-- a site that is not marked
+pub record Free (n x : ℕ) (words : List ℕ) : Type 0 where
+  pub site : 0 < x
+  pub below : x < n
+  pub outside : has (marked n words) x ≡ false
 
--- of the sites that are not marked, the first that saves most
-abbrev pub Finds : List ℕ → ℕ → List ℕ → Found → Type 0
-Finds file n words found =
-    let k = marked n words in
-    FirstGreatest (has k) (saving (treeOf file) (demandOf file) k) n (found .site) (found .saving .0)
+-- what reaches each node once x is taken too is written
+abbrev pub Relieves : List ℕ → ℕ → ℕ → List ℕ → List ℕ → Type 0
+Relieves file n x old new = Wrote n reachWord (reach (treeOf file) (demandOf file) (withNode x (marked n old))) n old new
 
--- the nodes of an accepted file with their distances, and no site marked yet
-pub record Prepared (file : List ℕ) (n : ℕ) (old new : List ℕ) : Type 0 where
-  pub ready : Ready file n new
-  pub marks : marked n new ≡ []
+-- the serving distances of the nodes before v stand
+abbrev pub ServedTo : List ℕ → ℕ → ℕ → List ℕ → Type 0
+ServedTo file n v words = (u : ℕ) → u < v → wordOf words u servedWord ≡ servingDistance (treeOf file) (marked n words) u
+
+-- those of all nodes are written
+abbrev pub Serves : List ℕ → ℕ → List ℕ → List ℕ → Type 0
+Serves file n old new = Wrote n servedWord (servingDistance (treeOf file) (marked n old)) n old new
+
+-- x is marked besides, and the words say what holds then
+pub record Took (file : List ℕ) (n x : ℕ) (old new : List ℕ) : Type 0 where
+  pub current : Current file n new
+  pub marks : marked n new ≡ withNode x (marked n old)
   pub front : FrontOnly (4 * n) old new

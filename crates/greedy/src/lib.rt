@@ -1,4 +1,4 @@
-// The greedy rule: step by step it takes the site where a cache saves most, found in two passes over the nodes.
+// The greedy rule: each step takes the site where a cache saves most, and changes only the words that this site changes.
 use tree_file::Checked;
 use tree_file::Ruling;
 use units::Distance;
@@ -18,8 +18,8 @@ ghost use Rattle.fields.specs.Table.{InFile};
 ghost use Rattle.tree_file.specs.Checks.{verdictOf};
 ghost use Rattle.node_words.specs.Words.{distanceWord, wordOf, HasNode, NodeRoom, SiteRoom};
 ghost use Rattle.greedy.specs.Savings.{cachable};
-ghost use Rattle.greedy.specs.Words.{servedWord, reachWord, markWord, marked, savingWord, servedFrom, Wrote, Ready, Serves, Passes, PassedFrom, Gathers, Weighed, Kept, Prepared, Finds};
-ghost use Rattle.greedy.specs.Run.{Granted, Ran};
+ghost use Rattle.greedy.specs.Words.{servedWord, reachWord, marked, savingWord, servedFrom, Wrote, Ready, Current, Free, ServedTo, Serves, PassedFrom, Passes, Gathers, Relieves, Took, Weighed, Prepared};
+ghost use Rattle.greedy.specs.Run.{Granted, Filled, Ran};
 
 // Of each node, beside its distance: that of its serving node, the flow that reaches it, and 1 where it is taken.
 const SERVED: usize = 1;
@@ -51,56 +51,19 @@ fn empty_total(file: &[u8], n: usize, words: &[u64]) -> Total
     sum
 }
 
-// No site is marked.
-fn clear_marks(n: usize, words: &mut [u64])
-    requires { ⌜ 4 * n ≤ length (now words) ⌝ }
-    ensures { λ _. ⌜ Wrote n markWord (λ _. 0) n (now (words .entry)) (now (words .exit)) ⌝ }
+// Word `f` of each node is 0.
+fn clear(n: usize, f: usize, words: &mut [u64])
+    requires { ⌜ (f < 4) × (4 * n ≤ length (now words)) ⌝ }
+    ensures { λ _. ⌜ Wrote n f (λ _. 0) n (now (words .entry)) (now (words .exit)) ⌝ }
 {
     let mut v = 0;
     while v < n {
-        node_words::put(words, v, MARK, 0);
+        node_words::put(words, v, f, 0);
         v += 1;
     }
 }
 
-// The distance of each node, and no site marked.
-fn prepare(file: &[u8], n: usize, words: &mut [u64])
-    requires { ⌜ NodeRoom (now file) n (now words) ⌝ }
-    ensures { λ _. ⌜ Prepared (now (file .entry)) n (now (words .entry)) (now (words .exit)) ⌝ }
-{
-    node_words::measure(file, n, words);
-    clear_marks(n, words);
-}
-
-// ---- serving distances, from the server down
-
-fn served_at(file: &[u8], words: &[u64], v: usize) -> Distance
-    requires { ⌜ InFile (now file) v ⌝ }
-    requires { ⌜ HasNode (now words) v × HasNode (now words) (treeOf (now file) .parent v) ⌝ }
-    ensures { λ r. ⌜ r .0 ≡ servedFrom (treeOf (now (file .entry))) (now (words .entry)) v ⌝ }
-{
-    if node_words::word(words, v, MARK) == 1 {
-        return node_words::distance_of(words, v);
-    }
-    Distance(node_words::word(words, fields::parent_of(file, v), SERVED))
-}
-
-// How far the serving node of each node is from the server: a marked node's own distance, else its parent's serving distance.
-fn serve(file: &[u8], n: usize, words: &mut [u64])
-    requires { ⌜ Ready (now file) n (now words) ⌝ }
-    ensures { λ _. ⌜ Serves (now (file .entry)) n (now (words .entry)) (now (words .exit)) ⌝ }
-{
-    node_words::put(words, 0, SERVED, 0);
-    let mut v = 1;
-    while v < n {
-        let distance = served_at(file, words, v);
-        node_words::put(words, v, SERVED, distance.0);
-        v += 1;
-    }
-}
-
-// ---- the flow that reaches each node, from the last node up
-
+// The cachable flow of each node's own client.
 fn own_flows(file: &[u8], n: usize, words: &mut [u64])
     requires { ⌜ NodeRoom (now file) n (now words) ⌝ }
     ensures { λ _. ⌜ Wrote n reachWord (cachable (demandOf (now (file .entry)))) n (now (words .entry)) (now (words .exit)) ⌝ }
@@ -112,23 +75,19 @@ fn own_flows(file: &[u8], n: usize, words: &mut [u64])
     }
 }
 
-// What reaches site `v` reaches its parent too, unless `v` is marked.
+// What reaches site `v` reaches its parent too.
 fn pass_on(file: &[u8], n: usize, words: &mut [u64], v: usize)
     requires { ⌜ SiteRoom (now file) n (now words) v ⌝ }
     requires { ⌜ PassedFrom (now file) n (v + 1) (now words) ⌝ }
     ensures { λ _. ⌜ Passes (now (file .entry)) n v (now (words .entry)) (now (words .exit)) ⌝ }
 {
-    let mark = node_words::word(words, v, MARK);
-    if mark == 1 {
-        return;
-    }
     let up = fields::parent_of(file, v);
     let here = Flow(node_words::word(words, v, REACH));
     let reach = Flow(node_words::word(words, up, REACH)).plus(here);
     node_words::put(words, up, REACH, reach.0);
 }
 
-// The flow that reaches each node and meets no marked one before.
+// The flow that reaches each node where no site is taken, from the last node up.
 fn gather(file: &[u8], n: usize, words: &mut [u64])
     requires { ⌜ NodeRoom (now file) n (now words) ⌝ }
     ensures { λ _. ⌜ Gathers (now (file .entry)) n (now (words .entry)) (now (words .exit)) ⌝ }
@@ -141,7 +100,18 @@ fn gather(file: &[u8], n: usize, words: &mut [u64])
     }
 }
 
-// ---- a step
+// The words of each node where no site is taken.
+fn prepare(file: &[u8], n: usize, words: &mut [u64])
+    requires { ⌜ NodeRoom (now file) n (now words) ⌝ }
+    ensures { λ _. ⌜ Prepared (now (file .entry)) n (now (words .entry)) (now (words .exit)) ⌝ }
+{
+    node_words::measure(file, n, words);
+    clear(n, SERVED, words);
+    clear(n, MARK, words);
+    gather(file, n, words);
+}
+
+// ---- the site that saves most
 
 // What a cache at `v` would save.
 fn saving_of(words: &[u64], v: usize) -> Total
@@ -173,21 +143,77 @@ fn search(n: usize, words: &[u64]) -> Found
     Found { site, saving: most }
 }
 
-// The site outside the marked ones where a cache saves most.
-fn best_site(file: &[u8], n: usize, words: &mut [u64]) -> Found
-    requires { ⌜ Ready (now file) n (now words) ⌝ }
-    ensures { λ r. ⌜ Finds (now (file .entry)) n (now (words .entry)) r ⌝ }
-    ensures { λ _. ⌜ Kept (now (file .entry)) n (now (words .entry)) (now (words .exit)) ⌝ }
+// ---- a site taken
+
+// What reaches site `x` goes no farther: it leaves the nodes above, up to the next cache.
+fn relieve(file: &[u8], n: usize, words: &mut [u64], x: usize)
+    requires { ⌜ Current (now file) n (now words) × (0 < x) × (x < n) ⌝ }
+    ensures { λ _. ⌜ Relieves (now (file .entry)) n x (now (words .entry)) (now (words .exit)) ⌝ }
 {
-    serve(file, n, words);
-    gather(file, n, words);
-    search(n, words)
+    let flow = Flow(node_words::word(words, x, REACH));
+    let mut v = x;
+    while v != 0 {
+        let mark = node_words::word(words, v, MARK);
+        if mark == 1 {
+            return;
+        }
+        v = fields::parent_of(file, v);
+        let left = Flow(node_words::word(words, v, REACH)).without(flow);
+        node_words::put(words, v, REACH, left.0);
+    }
+}
+
+fn served_at(file: &[u8], words: &[u64], v: usize) -> Distance
+    requires { ⌜ InFile (now file) v ⌝ }
+    requires { ⌜ HasNode (now words) v × HasNode (now words) (treeOf (now file) .parent v) ⌝ }
+    ensures { λ r. ⌜ r .0 ≡ servedFrom (treeOf (now (file .entry))) (now (words .entry)) v ⌝ }
+{
+    if node_words::word(words, v, MARK) == 1 {
+        return node_words::distance_of(words, v);
+    }
+    Distance(node_words::word(words, fields::parent_of(file, v), SERVED))
+}
+
+// Serving distances from node `x` on: a marked node's own distance, else its parent's serving distance.
+fn serve(file: &[u8], n: usize, words: &mut [u64], x: usize)
+    requires { ⌜ Ready (now file) n (now words) × (0 < x) × (x < n) ⌝ }
+    requires { ⌜ ServedTo (now file) n x (now words) ⌝ }
+    ensures { λ _. ⌜ Serves (now (file .entry)) n (now (words .entry)) (now (words .exit)) ⌝ }
+{
+    let mut v = x;
+    while v < n {
+        let distance = served_at(file, words, v);
+        node_words::put(words, v, SERVED, distance.0);
+        v += 1;
+    }
+}
+
+// Site `x` is taken: less flow reaches the nodes above it, and nodes after it may be served nearer.
+fn take_site(file: &[u8], n: usize, words: &mut [u64], x: usize)
+    requires { ⌜ Current (now file) n (now words) × Free n x (now words) ⌝ }
+    ensures { λ _. ⌜ Took (now (file .entry)) n x (now (words .entry)) (now (words .exit)) ⌝ }
+{
+    relieve(file, n, words, x);
+    node_words::put(words, x, MARK, 1);
+    serve(file, n, words, x);
 }
 
 // ---- the run
 
-// Each of k steps takes the site that saves most. Where none saves, a step finds site 0 and saving 0, which changes neither
-// the sites nor the total, and so does every later step: the server's mark counts for nothing.
+// The steps from step `b` on, where none saves: the total stays, and no node is taken.
+fn rest(b: usize, k: usize, total: Total, totals: &mut [u64], taken: &mut [u16])
+    requires { ⌜ (b ≤ k) × (k ≤ mostBudget) × (k + 1 ≤ length (now totals)) × (k ≤ length (now taken)) ⌝ }
+    ensures { λ _. ⌜ Filled b k (total .0) (now (totals .entry)) (now (taken .entry)) (now (totals .exit)) (now (taken .exit)) ⌝ }
+{
+    let mut j = b;
+    while j < k {
+        taken[j] = 0;
+        totals[j + 1] = total.0;
+        j += 1;
+    }
+}
+
+// Each of k steps takes the site that saves most. Where none saves, none will in a later step.
 fn take_sites(
     file: &[u8],
     n: usize,
@@ -197,15 +223,19 @@ fn take_sites(
     taken: &mut [u16],
 )
     requires { ⌜ Granted (now file) n k (now words) (now totals) (now taken) ⌝ }
-    requires { ⌜ Ready (now file) n (now words) × (marked n (now words) ≡ []) ⌝ }
+    requires { ⌜ Current (now file) n (now words) × (marked n (now words) ≡ []) ⌝ }
     ensures { λ _. ⌜ Ran (now (file .entry)) n (now (words .entry)) (now (totals .entry)) (now (taken .entry)) (now (words .exit)) (now (totals .exit)) (now (taken .exit)) ⌝ }
 {
     let mut total = empty_total(file, n, words);
     totals[0] = total.0;
     let mut b = 0;
     while b < k {
-        let found = best_site(file, n, words);
-        node_words::put(words, found.site, MARK, 1);
+        let found = search(n, words);
+        if found.saving.0 == 0 {
+            rest(b, k, total, totals, taken);
+            return;
+        }
+        take_site(file, n, words, found.site);
         taken[b] = found.site as u16;
         total = total.without(found.saving);
         totals[b + 1] = total.0;

@@ -2,7 +2,7 @@
 use native.Mathlib.Omega.{arith}
 use borrow.Author.Needs.{needs}
 use Rattle.node_words.proofs.Words.{room-some}
-use Rattle.greedy.proofs.Passes.{Gathering, pass-begins, pass-site, pass-sums, pass-turns, pass-ends}
+use Rattle.greedy.proofs.Passes.{Gathering, pass-begins, pass-site, pass-turns, pass-ends}
 use Rattle.greedy.proofs.gather.Statement.{statement}
 use Rattle.greedy.proofs.gather.Tie as tie
 
@@ -22,11 +22,7 @@ loop-holds : tie.Need-loop-holds Inv-loop μ-loop
 loop-holds c = pass-begins (c .before .before .before .before .before .before .pre) (c .before .before .own-flows .ensures)
 
 pass-on-requires : tie.Need-pass-on-requires Inv-loop μ-loop
-pass-on-requires c κs =
-    let st = c .before .before .before .before .before .before .before .before .before in
-    let own = c .before .before .before .before .before .own-flows .ensures in
-    let p = c .before .before .loop .inv in
-    (pass-site (st .pre) own p (c .before .loop-test .taken), pass-sums (st .pre) own p)
+pass-on-requires c κs = let p = c .before .before .loop .inv in (pass-site (c .before .before .before .before .before .before .before .before .before .pre) (c .before .before .before .before .before .own-flows .ensures) p (c .before .loop-test .taken), p .1 .held)
 
 sub-v-2 : tie.Need-sub-v-2 Inv-loop μ-loop
 sub-v-2 c = omega arith
