@@ -26,22 +26,36 @@ module _ (before other : List ℕ) (r x : ℕ) where
   pub lower-begins : Lowered before other 0 r x before
   lower-begins = record { inside = λ n h. absurd (omega arith); outside = λ m h. refl }
 
-  pub lower-turns : (n : ℕ) {after : List ℕ} {sum low : ℕ} → r + n < length after → Lowered before other n r x after
-      → sum ≡ getD other n 0 + x → low ≡ min (getD after (r + n) 0) sum → Lowered before other (n + 1) r x (set after (r + n) low)
-  lower-turns n {after} {sum} {low} h so-far hs hl = record {
-    inside =
-        λ i k.
-        elim (decLt i n) [
-          | yes l ↦ getD-set-other after (r + n) (r + i) low 0 (λ e. omega arith) ∙ so-far .inside i l
-          | no l ↦
-              let last : i ≡ n = omega arith in
-              rw last (getD-set-same after (r + n) low 0 h ∙ omega (arith, so-far .outside (r + n) (inr (omega arith))))
-        ];
-    outside =
-        λ m k.
-        getD-set-other after (r + n) m low 0 (λ e. ⊎-elim (λ l. omega arith) (λ l. omega arith) k)
-        ∙ so-far .outside m (⊎-map (λ l. l) (λ l. omega arith) k);
-  }
+  module _ (n : ℕ) {after : List ℕ} {sum : ℕ} (so-far : Lowered before other n r x after) (is : sum ≡ getD other n 0 + x) where
+    here : getD after (r + n) 0 ≡ getD before (r + n) 0
+    here = so-far .outside (r + n) (inr (omega arith))
+
+    -- the next sum is less
+    pub lower-stores : r + n < length after → sum < getD after (r + n) 0 → Lowered before other (n + 1) r x (set after (r + n) sum)
+    lower-stores h less = record {
+      inside =
+          λ i k.
+          elim (decLt i n) [
+            | yes l ↦ getD-set-other after (r + n) (r + i) sum 0 (λ e. omega arith) ∙ so-far .inside i l
+            | no l ↦ let last : i ≡ n = omega arith in rw last (getD-set-same after (r + n) sum 0 h ∙ omega (arith, here))
+          ];
+      outside =
+          λ m k.
+          getD-set-other after (r + n) m sum 0 (λ e. ⊎-elim (λ l. omega arith) (λ l. omega arith) k)
+          ∙ so-far .outside m (⊎-map (λ l. l) (λ l. omega arith) k);
+    }
+
+    -- the next sum is not less
+    pub lower-stays : getD after (r + n) 0 ≤ sum → Lowered before other (n + 1) r x after
+    lower-stays more = record {
+      inside =
+          λ i k.
+          elim (decLt i n) [
+            | yes l ↦ so-far .inside i l
+            | no l ↦ let last : i ≡ n = omega arith in rw last (omega (arith, here))
+          ];
+      outside = λ m k. so-far .outside m (⊎-map (λ l. l) (λ l. omega arith) k);
+    }
 
 -- ---- so a loop over r finds the least of all splits
 

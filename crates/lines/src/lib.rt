@@ -86,7 +86,10 @@ fn lower(line: &mut [u64], other: &[u64], end: usize, r: usize, cost: Total)
     let mut n = 0;
     while n < end {
         let m = r + n;
-        line[m] = Total(line[m]).lesser(Total(other[n]).plus(cost)).0;
+        let sum = Total(other[n]).plus(cost);
+        if sum.is_less(Total(line[m])) {
+            line[m] = sum.0;
+        }
         n += 1;
     }
 }
@@ -144,9 +147,9 @@ pub fn line_of(
 }
 
 // Stores a line of w entries from `at` on.
-pub fn put(s: &mut [u64], at: usize, w: usize, line: [u64; WIDTH])
-    requires { ⌜ (w ≤ mostWidth) × (at + w ≤ length (now s)) ⌝ }
-    ensures { λ _. ⌜ now (s .exit) ≡ sets (now (s .entry)) at (take w line) ⌝ }
+pub fn put(s: &mut [u64], at: usize, w: usize, line: &[u64])
+    requires { ⌜ (w ≤ length (now line)) × (at + w ≤ length (now s)) ⌝ }
+    ensures { λ _. ⌜ now (s .exit) ≡ sets (now (s .entry)) at (take w (now (line .entry))) ⌝ }
 {
     let mut i = 0;
     while i < w {

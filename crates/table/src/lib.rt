@@ -97,7 +97,7 @@ fn fill_one(
     ensures { λ _. ⌜ now (s .exit) ≡ sets (now (s .entry)) (lineAt tree v a) (lineFor (treeOf (now (file .entry))) (demandOf (now (file .entry))) (width tree) v a) ⌝ }
 {
     let made = made_line(file, tree, s, sizes, v, a, u);
-    lines::put(s, line_at(tree, v, a), width(tree), made);
+    lines::put(s, line_at(tree, v, a), width(tree), &made);
 }
 
 // ---- the table

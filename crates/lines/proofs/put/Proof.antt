@@ -25,8 +25,8 @@ loop-holds c = (omega arith, refl, loop-begins _ _ _)
 mul-s : tie.Need-mul-s Inv-loop μ-loop
 mul-s c = omega arith
 
-array-read-s : tie.Need-array-read-s Inv-loop μ-loop
-array-read-s c = omega arith
+shared-slice-read-s : tie.Need-shared-slice-read-s Inv-loop μ-loop
+shared-slice-read-s c = omega arith
 
 add-s : tie.Need-add-s Inv-loop μ-loop
 add-s c = search needs
@@ -44,7 +44,7 @@ loop-less : tie.Need-loop-less Inv-loop μ-loop
 loop-less c = search needs
 
 loop-again : tie.Need-loop-again Inv-loop μ-loop
-loop-again c = let l = c .before .loop in (omega arith, simp length-set (l .inv .1), loop-turns _ _ _ (l .i) (l .inv .2) refl refl)
+loop-again c = let l = c .before .before .loop in (omega arith, simp length-set (l .inv .1), loop-turns _ _ _ (l .i) (l .inv .2) refl refl)
 
 same-length : tie.Need-same-length Inv-loop μ-loop
 same-length c = search needs
@@ -52,7 +52,7 @@ same-length c = search needs
 returns : tie.Need-returns Inv-loop μ-loop
 returns c =
     let s = c .before .before in
-    loop-copied-front _ _ (s .args .t4) (c .before .loop .i) (s .args .w) (c .before .loop .inv .2) (omega arith) (omega (arith, s .good .1 .1 .1 .0))
+    loop-copied-front _ _ (s .args .line .now) (c .before .loop .i) (s .args .w) (c .before .loop .inv .2) (omega arith) (omega arith)
 
 pub put-spec : {M : Type 1} → statement M
 put-spec =
@@ -62,7 +62,7 @@ put-spec =
     μ-loop
     loop-holds
     mul-s
-    array-read-s
+    shared-slice-read-s
     add-s
     mul-s-2
     slice-write-s

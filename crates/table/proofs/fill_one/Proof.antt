@@ -16,13 +16,17 @@ line-at-requires c κs = let st = c .before .before .before .before .before .bef
 width-requires : tie.Need-width-requires
 width-requires c κs = let st = c .before .before .before .before .before .before .before in served-width (st .pre .0) (st .pre .1 .1)
 
+slice-aggregate-put : tie.Need-slice-aggregate-put
+slice-aggregate-put c = search needs
+
 put-requires : tie.Need-put-requires
 put-requires c κs =
-    let at = c .before in
+    let wide = c .before in
+    let at = wide .before in
     let st = at .before .before .before .before .before .before .before in
     let place = served-place (st .pre .0) (st .pre .1 .1) in (
-      omega (arith, c .width .ensures, place .budget),
-      omega (arith, at .line-at .ensures, c .width .ensures, room-long (st .pre .0 .ready .room), line-within (st .args .tree) (st .args .v) (st .args .a) (place .node) (place .above)),
+      omega (arith, wide .width .ensures, place .budget),
+      omega (arith, at .line-at .ensures, wide .width .ensures, room-long (st .pre .0 .ready .room), line-within (st .args .tree) (st .args .v) (st .args .a) (place .node) (place .above)),
     )
 
 same-length : tie.Need-same-length
@@ -31,7 +35,7 @@ same-length c = search needs
 returns : tie.Need-returns
 returns c =
     let put = c .before .before in
-    let wide = put .before in
+    let wide = put .before .before in
     let at = wide .before in
     let made = at .before .before in
     rw (at .line-at .ensures, wide .width .ensures, made .made-line .ensures) at (put .put .ensures)
@@ -39,4 +43,4 @@ returns c =
 pub fill-one-spec : {M : Type 1} → statement M
 fill-one-spec =
     tie.close
-    (tie.spec made-line-requires line-at-requires width-requires put-requires same-length returns)
+    (tie.spec made-line-requires line-at-requires width-requires slice-aggregate-put put-requires same-length returns)
