@@ -145,7 +145,10 @@ static void try_bill(const uint16_t *set, size_t members)
 static void try_sets(void)
 {
     uint16_t set[NODES + 1] = { 0 };
-    size_t members = random_set(set, at.n, &seed);
+    size_t members = random_set(set, at.n, &seed), planned = 0;
+    while (planned < at.k && at.plan.row[at.k][planned])
+        planned++;
+    try_bill(at.plan.row[at.k], planned);
     try_bill(set, members);
     set[upto(members)] = upto(at.n + 1);
     try_bill(set, members + upto(1));
