@@ -7,7 +7,7 @@ use native.Mathlib.Omega.{arith}
 use lib.Dec.{ltb}
 use borrow.Author.Tests.{ltb-true}
 use Rattle.laws.proofs.Bools.{both}
-use Rattle.model.specs.File.{Tree, Demand, treeOf, demandOf, countOf}
+use Rattle.model.specs.File.{Tree, Demand}
 use Rattle.model.specs.Rules.{Verdict, passed, broken, ask, _then_, recordVerdict, recordsVerdict, fileVerdict}
 use Rattle.model.specs.Calls.{planVerdict, greedyVerdict}
 use Rattle.model.specs.Report.{reportVerdict}

@@ -1,7 +1,5 @@
 -- `bill`: the bill, with its total as a buffer.
-use mathlib.Core.Path.{sym, ap, _∙_}
 use borrow.Author.Needs.{needs}
-use Rattle.placement.specs.Answers.{billAnswer}
 use Rattle.kterc_c.proofs.Bills.{bill-no-room, bill-refused, bill-billed}
 use Rattle.kterc_c.proofs.bill.Statement.{statement}
 use Rattle.kterc_c.proofs.bill.Tie as tie

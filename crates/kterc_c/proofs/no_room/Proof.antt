@@ -1,5 +1,5 @@
 -- `no_room`: the answer of a bill with no room for its total.
-use mathlib.Core.Path.{sym, ap, _∙_}
+use mathlib.Core.Path.{sym}
 use borrow.Author.Needs.{needs}
 use Rattle.laws.proofs.Bools.{held, failed}
 use Rattle.tree_file.proofs.Services.{told}
