@@ -6,7 +6,7 @@ use native.Mathlib.Nat.{add-suc, suc-add, zero-add, add-zero, suc-mul, zero-mul}
 use native.Mathlib.Numerals.{add-one}
 use native.Mathlib.Omega.{arith}
 use lib.ListN.{length, length-append, take, drop, set, getD, length-drop}
-use lib.Seq.{take-suc, getD-drop, getD-set-other, drop-append-add, sets, sets-eq, drop-set-lt, take-set-le, take-at, drop-at, length-take-le}
+use lib.Seq.{take-suc, getD-drop, getD-set-other, drop-append-add, drop-drop, sets, sets-eq, drop-set-lt, take-set-le, take-at, drop-at, length-take-le}
 use Rattle.laws.specs.Lists.{range, part}
 use Rattle.laws.proofs.Lists.{length-of-range, range-snoc, map-append}
 
@@ -15,6 +15,9 @@ use Rattle.laws.proofs.Lists.{length-of-range, range-snoc, map-append}
 -- a part that is one entry longer
 pub part-snoc : (l : List ℕ) (p w : ℕ) → p + w < length l → part l p (suc w) ≡ part l p w ++ (getD l (p + w) 0 ∷ [])
 part-snoc l p w h = rw (take-suc (drop p l) w 0 (simp length-drop (omega arith)), getD-drop p l w 0)
+
+pub length-part : (l : List ℕ) (p w : ℕ) → p + w ≤ length l → length (part l p w) ≡ w
+length-part l p w h = length-take-le w (drop p l) (simp length-drop (omega arith))
 
 -- a part is the end of a front of the list
 part-of-front : (w p : ℕ) (l : List ℕ) → take w (drop p l) ≡ drop p (take (p + w) l)
@@ -82,6 +85,12 @@ part-same l i xs w e h =
     ap (λ (s : List ℕ). part s i w) (sets-eq xs l i (omega arith) ∙ append-assoc (take i l) xs (drop (i + length xs) l))
     ∙ ap (take w) (drop-at (take i l) (xs ++ drop (i + length xs) l) i (length-take-le i l (omega arith)))
     ∙ take-at xs (drop (i + length xs) l) w e
+
+-- a part that was lent comes back as a run of stores
+pub sets-part : (l : List ℕ) (i : ℕ) (xs : List ℕ) (k : ℕ) → length xs ≡ k → i + k ≤ length l
+    → take i l ++ (xs ++ drop k (drop i l)) ≡ sets l i xs
+sets-part l i xs k e h =
+    rw (drop-drop k i l, ← e) (sym (sets-eq xs l i (omega arith) ∙ append-assoc (take i l) xs (drop (i + length xs) l)))
 
 -- ---- a loop that writes f 0, f 1, .. from index i on: where it begins, and a turn
 

@@ -1,5 +1,5 @@
 -- Laws of a row's line: the loop over the counts that have a choice finds the least of all splits.
-use mathlib.Core.Path.{_≡_, refl, _∙_}
+use mathlib.Core.Path.{_≡_, refl, sym, _∙_}
 use mathlib.Core.List.{List, map}
 use mathlib.Core.Logic.{inl, inr, ⊎-elim, ⊎-map}
 use Prim.Native.Nat.{ℕ, suc, _+_, _-_, _≤_, _<_, min}
@@ -7,7 +7,7 @@ use native.Mathlib.Numerals.{add-one}
 use native.Mathlib.Decide.{decLt}
 use native.Mathlib.Omega.{arith}
 use lib.ListN.{length, take, getD, set, replicate, length-replicate, getD-replicate}
-use lib.Seq.{getD-set-same, getD-set-other, sets, length-sets}
+use lib.Seq.{take-all, getD-set-same, getD-set-other, sets, length-sets}
 use Rattle.laws.specs.Lists.{range}
 use Rattle.laws.proofs.Lists.{length-of-range}
 use Rattle.laws.proofs.Stores.{entry-after}
@@ -16,7 +16,7 @@ use Rattle.laws.proofs.Ranges.{entry-stored}
 use Rattle.best_rows.specs.Least.{low}
 use Rattle.best_rows.specs.Best.{cap, split, cell}
 use Rattle.best_rows.proofs.Least.{low-is}
-use Rattle.lines.specs.Line.{mostWidth, NoneFrom, LineParts, RowBounds, RowParts, lineNode, lineSplit, lineCell, rowSplit, rowCell, Lowered}
+use Rattle.lines.specs.Line.{mostWidth, NoneFrom, LineParts, RowBounds, ownEnd, restEnd, RowParts, lineNode, lineSplit, lineCell, rowSplit, rowCell, Cleared, Lowered}
 use Rattle.lines.proofs.Node.{node-within, node-none}
 use Rattle.lines.proofs.Low.{low-within, low-same, low-leaves-out, low-turned}
 
@@ -64,11 +64,11 @@ module _ (node rest : List ℕ) (w : ℕ) where
   abbrev pub LeastBefore : ℕ → List ℕ → Type 0
   LeastBefore r line = (m : ℕ) → m < w → getD line m 0 ≡ low cap (rowSplit node rest m) (min r (m + 1))
 
-  pub row-begins : (n : ℕ) → w ≤ n → LeastBefore 0 (replicate n cap)
+  pub row-begins : (line : List ℕ) → Cleared w line → LeastBefore 0 line
   unfolding low
-  row-begins n h m k =
+  row-begins line clear m h =
       let none : min 0 (m + 1) ≡ 0 = omega arith in
-      rw none (getD-replicate n m cap 0 (omega arith))
+      rw none (clear m h)
 
   pub row-turns : (e r end : ℕ) (line after : List ℕ) {x : ℕ} → NoneFrom e w node → x ≡ getD rest r 0 → end ≡ min e (w - r)
       → LeastBefore r line → Lowered line node end r x after → LeastBefore (r + 1) after
@@ -90,11 +90,12 @@ module _ (node rest : List ℕ) (w : ℕ) where
             ])
       ]
 
-  pub row-ends : (e : ℕ) (line : List ℕ) → w ≤ length line → NoneFrom e w rest → LeastBefore e line
-      → take w line ≡ map (rowCell node rest) (range 0 w)
+  pub row-ends : (e : ℕ) (line : List ℕ) → length line ≡ w → NoneFrom e w rest → LeastBefore e line
+      → line ≡ map (rowCell node rest) (range 0 w)
   unfolding rowCell
-  row-ends e line h none so-far =
-      front-is-entries w line h
+  row-ends e line long none so-far =
+      sym (take-all w line (omega arith))
+      ∙ front-is-entries w line (omega arith)
       ∙ same-on-range _ _ 0 w
       (λ m _ k.
       so-far m (omega arith)
@@ -119,11 +120,15 @@ row-cell-turned node rest m =
 pub row-turned : (node rest : List ℕ) (w : ℕ) → map (rowCell node rest) (range 0 w) ≡ map (rowCell rest node) (range 0 w)
 row-turned node rest w = same-on-range (rowCell node rest) (rowCell rest node) 0 w (λ m _ _. row-cell-turned node rest m)
 
--- ---- all entries, where the node's line is known up to its end
+-- ---- all entries, where the node's line is known up to its end, and the later siblings' line was copied
 
 module _ {taken spare rest : List ℕ} {member other w below after : ℕ} (parts : LineParts w taken spare rest member other)
-    (bounds : RowBounds w taken spare rest below after) (wide : w ≤ mostWidth) {node : List ℕ} {end : ℕ} (ends : end ≡ min w (below + 2))
-    (known : node ≡ sets (replicate mostWidth cap) 0 (map (lineNode taken spare member other) (range 0 end))) where
+    (bounds : RowBounds w taken spare rest below after) (wide : w ≤ mostWidth) {node copy : List ℕ}
+    (known : node ≡ sets (replicate mostWidth cap) 0 (map (lineNode taken spare member other) (range 0 (ownEnd w below))))
+    (copied : copy ≡ sets (replicate mostWidth cap) 0 (take w rest)) where
+  abbrev end : ℕ
+  end = ownEnd w below
+
   entry-known : (n : ℕ) → n < end → getD node n 0 ≡ lineNode taken spare member other n
   entry-known n h =
       rw known (entry-stored (replicate mostWidth cap) (lineNode taken spare member other) end n (rw length-replicate (omega arith)) h)
@@ -142,22 +147,27 @@ module _ {taken spare rest : List ℕ} {member other w below after : ℕ} (parts
         | no l ↦ omega (arith, entry-none n (omega arith) h)
       ]
 
-  pub row-parts : {last : ℕ} → last ≡ min w (after + 1) → RowParts w node rest end last
+  entry-copied : (n : ℕ) → n < w → getD copy n 0 ≡ getD rest n 0
+  entry-copied n h =
+      rw (copied, front-is-entries w rest (parts .rest-line .long))
+      (entry-stored (replicate mostWidth cap) (λ j. getD rest j 0) w n (rw length-replicate wide) h)
+
+  pub row-parts : RowParts w node copy (ownEnd w below) (restEnd w after)
   unfolding cap
-  row-parts e = record {
-    long = (rw (known, length-sets) (rw length-replicate wide), parts .rest-line .long);
+  row-parts = record {
+    long = (rw (known, length-sets) (rw length-replicate wide), rw (copied, length-sets) (rw length-replicate wide));
     ends = (omega arith, omega arith);
-    none = (λ n h k. omega (arith, entry-none n h k), λ n h k. bounds .rest-none n (omega arith) k);
-    fits = λ m n h k. omega (arith, entry-within m h, parts .rest-line .within n k);
+    none = (λ n h k. omega (arith, entry-none n h k), λ n h k. omega (arith, entry-copied n k, bounds .rest-none n (omega arith) k));
+    fits = λ m n h k. omega (arith, entry-within m h, entry-copied n k, parts .rest-line .within n k);
   }
 
-  row-is-cell : (m : ℕ) → m < w → rowCell node rest m ≡ lineCell taken spare rest member other m
+  row-is-cell : (m : ℕ) → m < w → rowCell node copy m ≡ lineCell taken spare rest member other m
   unfolding rowCell lineCell lineNode split cell
   row-is-cell m h =
-      low-same cap (rowSplit node rest m) (lineSplit taken spare rest member other m) (m + 1)
+      low-same cap (rowSplit node copy m) (lineSplit taken spare rest member other m) (m + 1)
       (λ i l.
       elim (decLt (m - i) end) [
-        | yes k ↦ omega (arith, entry-known (m - i) k)
+        | yes k ↦ omega (arith, entry-known (m - i) k, entry-copied i (omega arith))
         | no k ↦
             omega (
               arith,
@@ -167,5 +177,5 @@ module _ {taken spare rest : List ℕ} {member other w below after : ℕ} (parts
       ])
       ∙ rw (add-one m) (low-is (lineSplit taken spare rest member other m) cap m)
 
-  pub row-is-line : map (rowCell node rest) (range 0 w) ≡ map (lineCell taken spare rest member other) (range 0 w)
-  row-is-line = same-on-range (rowCell node rest) (lineCell taken spare rest member other) 0 w (λ m _ h. row-is-cell m (omega arith))
+  pub row-is-line : map (rowCell node copy) (range 0 w) ≡ map (lineCell taken spare rest member other) (range 0 w)
+  row-is-line = same-on-range (rowCell node copy) (lineCell taken spare rest member other) 0 w (λ m _ h. row-is-cell m (omega arith))

@@ -84,6 +84,14 @@ pub record RowBounds (w : ℕ) (taken spare rest : List ℕ) (below after : ℕ)
   pub spare-none : NoneFrom (below + 1) w spare
   pub rest-none : NoneFrom (after + 1) w rest
 
+-- from here on the node has no choice
+abbrev pub ownEnd : ℕ → ℕ → ℕ
+ownEnd w below = min w (below + 2)
+
+-- and from here on its later siblings have none
+abbrev pub restEnd : ℕ → ℕ → ℕ
+restEnd w after = min w (after + 1)
+
 -- ---- the same row from the line of its first node, whose entries may be above the cap
 
 -- the lines of the two parts of a row, each with no choice from its end on; every sum of their entries fits a word
@@ -100,6 +108,10 @@ rowSplit node rest m r = getD node (m - r) 0 + getD rest r 0
 -- the least of the row with m caches
 unfoldable pub rowCell : List ℕ → List ℕ → ℕ → ℕ
 rowCell node rest m = low cap (rowSplit node rest m) (m + 1)
+
+-- no count below w has a choice yet
+abbrev pub Cleared : ℕ → List ℕ → Type 0
+Cleared w l = (n : ℕ) → n < w → getD l n 0 ≡ cap
 
 -- each entry below the end fits a word together with x
 abbrev pub SumsFit : ℕ → List ℕ → ℕ → Type 0

@@ -2,12 +2,12 @@
 ghost use mathlib.Core.Path.{_≡_};
 ghost use mathlib.Core.Bool.{true, false};
 ghost use mathlib.Core.List.{map};
-ghost use Prim.Native.Nat.{_+_, _≤_, min};
-ghost use lib.ListN.{length, take, replicate};
+ghost use Prim.Native.Nat.{_+_, _≤_, _<_, min};
+ghost use lib.ListN.{length, take};
 ghost use lib.Seq.{sets};
 ghost use Rattle.laws.specs.Lists.{range};
-ghost use Rattle.best_rows.specs.Best.{cap};
-ghost use Rattle.lines.specs.Line.{mostWidth, NodeParts, LineParts, RowBounds, RowParts, SumsFit, lineSide, lineTakes, lineNode, lineSplit, lineLater, lineCell, SplitBound, rowCell, Lowered, emptyCell};
+ghost use Rattle.model.specs.File.{mostNodes};
+ghost use Rattle.lines.specs.Line.{NodeParts, LineParts, RowParts, SumsFit, ownEnd, restEnd, lineSide, lineTakes, lineNode, lineSplit, lineLater, SplitBound, rowCell, Cleared, Lowered, emptyCell};
 use units::Total;
 
 // The most entries of a line: one for each budget from 0 to the largest.
@@ -56,25 +56,55 @@ pub fn takes(taken: &[u64], spare: &[u64], member: Total, other: Total, n: usize
     !sides.other.is_less(sides.member)
 }
 
-// A node's line for the counts below `end`; from there on it has no choice.
-fn node_line(taken: &[u64], spare: &[u64], member: Total, other: Total, end: usize) -> [u64; WIDTH]
-    requires { ⌜ end ≤ mostWidth ⌝ }
-    requires { ⌜ NodeParts end (now taken) (now spare) (member .0) (other .0) ⌝ }
-    ensures { λ r. ⌜ r ≡ sets (replicate mostWidth cap) 0 (map (lineNode (now (taken .entry)) (now (spare .entry)) (member .0) (other .0)) (range 0 end)) ⌝ }
+fn lesser(a: usize, b: usize) -> usize
+    ensures { λ r. ⌜ r ≡ min a b ⌝ }
 {
-    let mut line = [Total::CAP.0; WIDTH];
+    if b < a { b } else { a }
+}
+
+// Stores a node's line for the counts below `end`.
+fn node_line(
+    line: &mut [u64],
+    taken: &[u64],
+    spare: &[u64],
+    member: Total,
+    other: Total,
+    end: usize,
+)
+    requires { ⌜ end ≤ length (now line) ⌝ }
+    requires { ⌜ NodeParts end (now taken) (now spare) (member .0) (other .0) ⌝ }
+    ensures { λ _. ⌜ now (line .exit) ≡ sets (now (line .entry)) 0 (map (lineNode (now (taken .entry)) (now (spare .entry)) (member .0) (other .0)) (range 0 end)) ⌝ }
+{
     let mut n = 0;
     while n < end {
         line[n] = node_best(taken, spare, member, other, n).0;
         n += 1;
     }
-    line
 }
 
-fn lesser(a: usize, b: usize) -> usize
-    ensures { λ r. ⌜ r ≡ min a b ⌝ }
+// How many counts a node can have, with `below` nodes in the row of its children.
+fn own_end(w: usize, below: usize) -> usize
+    requires { ⌜ below < mostNodes ⌝ }
+    ensures { λ r. ⌜ r ≡ ownEnd w below ⌝ }
 {
-    if b < a { b } else { a }
+    lesser(w, below + 2)
+}
+
+// Stores a node's line for the counts that it can have.
+pub fn own_line(
+    line: &mut [u64],
+    taken: &[u64],
+    spare: &[u64],
+    member: Total,
+    other: Total,
+    w: usize,
+    below: usize,
+)
+    requires { ⌜ (w ≤ length (now line)) × (below < mostNodes) ⌝ }
+    requires { ⌜ NodeParts w (now taken) (now spare) (member .0) (other .0) ⌝ }
+    ensures { λ _. ⌜ now (line .exit) ≡ sets (now (line .entry)) 0 (map (lineNode (now (taken .entry)) (now (spare .entry)) (member .0) (other .0)) (range 0 (ownEnd w below))) ⌝ }
+{
+    node_line(line, taken, spare, member, other, own_end(w, below));
 }
 
 // Lowers a row's line to the splits with r caches in one part, which then cost `cost`, and fewer than `end` in the other.
@@ -94,66 +124,57 @@ fn lower(line: &mut [u64], other: &[u64], end: usize, r: usize, cost: Total)
     }
 }
 
-// The line of a row of two parts. Only counts below `end` have a choice in the first, and below `turns` in the second.
-fn joined(first: &[u64], second: &[u64], w: usize, end: usize, turns: usize) -> [u64; WIDTH]
-    requires { ⌜ w ≤ mostWidth ⌝ }
-    requires { ⌜ RowParts w (now first) (now second) end turns ⌝ }
-    ensures { λ r. ⌜ take w r ≡ map (rowCell (now (first .entry)) (now (second .entry))) (range 0 w) ⌝ }
+// Stores "no choice" in the first w entries of a line.
+fn clear(line: &mut [u64], w: usize)
+    requires { ⌜ w ≤ length (now line) ⌝ }
+    ensures { λ _. ⌜ Cleared w (now (line .exit)) ⌝ }
 {
-    let mut line = [Total::CAP.0; WIDTH];
+    let mut n = 0;
+    while n < w {
+        line[n] = Total::CAP.0;
+        n += 1;
+    }
+}
+
+// Makes the line of a row of two parts. Only counts below `end` have a choice in the first, and below `turns` in the second.
+fn joined(line: &mut [u64], first: &[u64], second: &[u64], w: usize, end: usize, turns: usize)
+    requires { ⌜ length (now line) ≡ w ⌝ }
+    requires { ⌜ RowParts w (now first) (now second) end turns ⌝ }
+    ensures { λ _. ⌜ now (line .exit) ≡ map (rowCell (now (first .entry)) (now (second .entry))) (range 0 w) ⌝ }
+{
+    clear(line, w);
     let mut r = 0;
     while r < turns {
-        lower(&mut line, first, lesser(end, w - r), r, Total(second[r]));
+        lower(line, first, lesser(end, w - r), r, Total(second[r]));
         r += 1;
     }
-    line
 }
 
-// A row's line, from that of its first node, with a choice for counts below `own`, and that of its later siblings, with one for
-// counts below `others`. The fewer take the turns.
-fn row_line(node: &[u64], rest: &[u64], w: usize, own: usize, others: usize) -> [u64; WIDTH]
-    requires { ⌜ w ≤ mostWidth ⌝ }
-    requires { ⌜ RowParts w (now node) (now rest) own others ⌝ }
-    ensures { λ r. ⌜ take w r ≡ map (rowCell (now (node .entry)) (now (rest .entry))) (range 0 w) ⌝ }
+// Makes a row's line, from that of its first node and that of its later siblings; `below` nodes are in the row of the node's
+// children and `after` in the siblings'. The part with fewer counts takes the turns.
+pub fn row_line(line: &mut [u64], node: &[u64], rest: &[u64], w: usize, below: usize, after: usize)
+    requires { ⌜ length (now line) ≡ w ⌝ }
+    requires { ⌜ (below < mostNodes) × (after < mostNodes) ⌝ }
+    requires { ⌜ RowParts w (now node) (now rest) (ownEnd w below) (restEnd w after) ⌝ }
+    ensures { λ _. ⌜ now (line .exit) ≡ map (rowCell (now (node .entry)) (now (rest .entry))) (range 0 w) ⌝ }
 {
+    let own = own_end(w, below);
+    let others = lesser(w, after + 1);
     if own < others {
-        joined(rest, node, w, others, own)
+        joined(line, rest, node, w, others, own);
     } else {
-        joined(node, rest, w, own, others)
+        joined(line, node, rest, w, own, others);
     }
 }
 
-// A row's line, of its first node's children with the node as a cache and without, and of its later siblings; `below` nodes are
-// in the children's row and `after` in the siblings'.
-pub fn line_of(
-    taken: &[u64],
-    spare: &[u64],
-    rest: &[u64],
-    member: Total,
-    other: Total,
-    w: usize,
-    below: usize,
-    after: usize,
-) -> [u64; WIDTH]
-    requires { ⌜ w ≤ mostWidth ⌝ }
-    requires { ⌜ LineParts w (now taken) (now spare) (now rest) (member .0) (other .0) ⌝ }
-    requires { ⌜ RowBounds w (now taken) (now spare) (now rest) below after ⌝ }
-    ensures { λ r. ⌜ take w r ≡ map (lineCell (now (taken .entry)) (now (spare .entry)) (now (rest .entry)) (member .0) (other .0)) (range 0 w) ⌝ }
-{
-    let own = lesser(w, below + 2);
-    let others = lesser(w, after + 1);
-    let node = node_line(taken, spare, member, other, own);
-    row_line(&node, rest, w, own, others)
-}
-
-// Stores a line of w entries from `at` on.
-pub fn put(s: &mut [u64], at: usize, w: usize, line: &[u64])
-    requires { ⌜ (w ≤ length (now line)) × (at + w ≤ length (now s)) ⌝ }
-    ensures { λ _. ⌜ now (s .exit) ≡ sets (now (s .entry)) at (take w (now (line .entry))) ⌝ }
+// Copies the first w entries of a line.
+pub fn copy(to: &mut [u64], line: &[u64], w: usize)
+    requires { ⌜ (w ≤ length (now to)) × (w ≤ length (now line)) ⌝ }
+    ensures { λ _. ⌜ now (to .exit) ≡ sets (now (to .entry)) 0 (take w (now (line .entry))) ⌝ }
 {
     let mut i = 0;
     while i < w {
-        s[at + i] = line[i];
+        to[i] = line[i];
         i += 1;
     }
 }

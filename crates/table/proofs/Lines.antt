@@ -1,13 +1,16 @@
 -- Laws of what the lines hold: the empty row's, those of children and later siblings, and the one that they join to.
 use mathlib.Core.Path.{_≡_, sym, ap, _∙_}
 use mathlib.Core.Bool.{cond}
-use mathlib.Core.List.{List, map}
+use mathlib.Core.List.{List, _++_, map}
 use mathlib.Core.Logic.{_⊎_, inl, inr}
-use Prim.Native.Nat.{ℕ, _<_}
+use Prim.Native.Nat.{ℕ, _+_, _-_, _≤_, _<_}
+use native.Mathlib.Nat.{add-sub-cancel-left}
 use native.Mathlib.Omega.{arith}
-use lib.ListN.{length, take}
+use lib.ListN.{length, take, drop}
+use lib.Seq.{sets}
 use Rattle.laws.specs.Lists.{range, bit}
 use Rattle.laws.proofs.Lists.{length-of-range}
+use Rattle.laws.proofs.Stores.{sets-part}
 use Rattle.laws.proofs.FrontValues.{same-on-range}
 use Rattle.model.specs.File.{Tree, Demand, mostNodes}
 use Rattle.model.specs.Bill.{price}
@@ -67,9 +70,15 @@ module _ (t : Tree) (d : Demand) where
     pub line-read : {v a u n member other : ℕ} {taken spare rest : List ℕ} (l : List ℕ) → Served t v a u
         → Known w (childrenAt t d v u) (bestAt t d (nextSibling t v) u) taken spare rest
         → n ≡ w → member ≡ price t d v v → other ≡ price t d v u
-        → take n l ≡ map (lineCell taken spare rest member other) (range 0 n) → take w l ≡ lineFor t d w v a
+        → l ≡ map (lineCell taken spare rest member other) (range 0 n) → l ≡ lineFor t d w v a
     line-read {v} {a} {u} {taken = taken} {spare = spare} {rest = rest} l at known e m o h =
         (rw (e, m, o) at h) ∙ line-joined v a u taken spare rest (at .site) (at .node) (at .server) known
+
+    -- and where it was lent to be made, it was stored
+    pub line-put : (v a at n : ℕ) {l : List ℕ} (s : List ℕ) → at + n ≤ length s → n ≡ w → l ≡ lineFor t d w v a
+        → take at s ++ (l ++ drop (at + n - at) (drop at s)) ≡ sets s at (lineFor t d w v a)
+    line-put v a at n s h e is =
+        rw (is, add-sub-cancel-left at n) (sets-part s at (lineFor t d w v a) n (omega (arith, length-line-for v a)) h)
 
     -- what the code makes it from
     pub parts-read : {v a u n member other : ℕ} {taken spare rest : List ℕ} → Sound t d → Served t v a u

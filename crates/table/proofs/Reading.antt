@@ -23,7 +23,8 @@ use Rattle.node_words.proofs.Words.{child-word-stands, sibling-word-stands}
 use Rattle.node_words.proofs.Ancestors.{ancestor-self, child-depth, child-ancestor, sibling-depth, sibling-ancestor, ancestor-before, ancestor-nearer}
 use Rattle.lines.specs.Line.{mostWidth, RowBounds}
 use Rattle.lines.proofs.Known.{Known}
-use Rattle.table.specs.Table.{width, lineNumber, tableEnd, InTable, lineIn, FilledFrom, TableFrom, Served, Client}
+use Rattle.table.specs.Table.{width, lineNumber, lineAt, tableEnd, InTable, lineIn, FilledFrom, TableFrom, Served, Client}
+use Rattle.table.proofs.Places.{line-within}
 use Rattle.table.proofs.Lines.{line-under, bounds-read}
 use Rattle.table.proofs.Room.{room-sound, room-count, in-tree, room-long, room-place, room-depth, ready-node, ready-client}
 
@@ -117,6 +118,9 @@ module _ {file : List ℕ} {sizes : code.Tree} {s : List ℕ} {i : ℕ} (r : Tab
 
     pub served-width : sizes .budget < mostWidth
     served-width = omega (arith, served-place .budget)
+
+    pub served-fits : {start w : ℕ} → start ≡ lineAt sizes v a → w ≡ width sizes → start + w ≤ length s
+    served-fits e f = omega (arith, line-within sizes v a served-node served-above, room-long (r .ready .room))
 
     -- and those of its children and its later siblings
     pub children-place : {child : ℕ} → child ≡ wordOf s v childWord → InTable sizes child a × (tableEnd sizes ≤ length s)

@@ -1,7 +1,7 @@
 // The plan's table in the scratch, behind the words of the nodes: its lines, filled from the last node down.
 ghost use mathlib.Core.Path.{_≡_};
 ghost use Prim.Native.Nat.{_+_, _≤_, _<_};
-ghost use lib.ListN.{length, take};
+ghost use lib.ListN.{length};
 ghost use lib.Seq.{sets};
 ghost use Rattle.model.specs.File.{treeOf, demandOf};
 ghost use Rattle.model.specs.Bill.{price};
@@ -52,36 +52,8 @@ pub fn pays(file: &[u8], s: &[u64], v: usize, u: usize) -> Total
 
 // ---- one line
 
-// Line (v, a), where u is v's ancestor at depth a: of v's children under v and under u, and of its later siblings under u.
-// `sizes` has how many nodes each row has.
-fn made_line(
-    file: &[u8],
-    tree: fields::Tree,
-    s: &[u64],
-    sizes: &[usize],
-    v: usize,
-    a: usize,
-    u: usize,
-) -> [u64; lines::WIDTH]
-    requires { ⌜ TableFrom (now file) tree (now s) (lineNumber tree v a + 1) ⌝ }
-    requires { ⌜ RowSizes (treeOf (now file)) (now sizes) ⌝ }
-    requires { ⌜ Served (treeOf (now file)) v a u ⌝ }
-    ensures { λ r. ⌜ take (width tree) r ≡ lineFor (treeOf (now (file .entry))) (demandOf (now (file .entry))) (width tree) v a ⌝ }
-{
-    let child = node_words::child_of(s, v);
-    let sibling = node_words::sibling_of(s, v);
-    let depth = node_words::depth_word(s, v);
-    let taken = line(s, tree, child, depth);
-    let spare = line(s, tree, child, a);
-    let rest = line(s, tree, sibling, a);
-    let member = pays(file, s, v, v);
-    let other = pays(file, s, v, u);
-    let below = sizes[child];
-    let after = sizes[sibling];
-    lines::line_of(taken, spare, rest, member, other, width(tree), below, after)
-}
-
-// Makes line (v, a), where u is v's ancestor at depth a, and stores it.
+// Makes line (v, a), where u is v's ancestor at depth a: of v's children under v and under u, and of its later siblings under u.
+// `sizes` has how many nodes each row has. The line is joined where it is to stand, from local lines, as `rest` stands in s too.
 fn fill_one(
     file: &[u8],
     tree: fields::Tree,
@@ -96,8 +68,24 @@ fn fill_one(
     requires { ⌜ Served (treeOf (now file)) v a u ⌝ }
     ensures { λ _. ⌜ now (s .exit) ≡ sets (now (s .entry)) (lineAt tree v a) (lineFor (treeOf (now (file .entry))) (demandOf (now (file .entry))) (width tree) v a) ⌝ }
 {
-    let made = made_line(file, tree, s, sizes, v, a, u);
-    lines::put(s, line_at(tree, v, a), width(tree), &made);
+    let old = &s[..];
+    let child = node_words::child_of(old, v);
+    let sibling = node_words::sibling_of(old, v);
+    let depth = node_words::depth_word(old, v);
+    let taken = line(old, tree, child, depth);
+    let spare = line(old, tree, child, a);
+    let rest = line(old, tree, sibling, a);
+    let member = pays(file, old, v, v);
+    let other = pays(file, old, v, u);
+    let below = sizes[child];
+    let after = sizes[sibling];
+    let w = width(tree);
+    let mut node = [Total::CAP.0; lines::WIDTH];
+    lines::own_line(&mut node, taken, spare, member, other, w, below);
+    let mut others = [Total::CAP.0; lines::WIDTH];
+    lines::copy(&mut others, rest, w);
+    let start = line_at(tree, v, a);
+    lines::row_line(&mut s[start..start + w], &node, &others, w, below, after);
 }
 
 // ---- the table

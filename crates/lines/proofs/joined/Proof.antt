@@ -1,47 +1,44 @@
--- `joined`: the line of a row of two parts.
-use mathlib.Core.Path.{_≡_, refl, sym, _∙_}
+-- `joined`: makes the line of a row of two parts.
+use mathlib.Core.Path.{_≡_, refl, _∙_}
 use Prim.Native.Nat.{_-_, _≤_}
 use native.Mathlib.Omega.{arith}
 use lib.ListN.{length}
 use borrow.Author.Needs.{needs}
-use Rattle.best_rows.specs.Best.{cap}
-use Rattle.lines.specs.Line.{mostWidth}
 use Rattle.lines.proofs.Row.{LeastBefore, row-begins, row-turns, row-ends}
 use Rattle.lines.proofs.joined.Statement.{statement}
 use Rattle.lines.proofs.joined.Tie as tie
 
 abbrev Inv-loop : tie.InvT-loop
-Inv-loop first second w end turns line₀ r₀ line r =
-    (r ≤ turns) × (length line ≡ mostWidth) × LeastBefore first second w r line
+Inv-loop line₀ first second w end turns r₀ line r =
+    (r ≤ turns) × (length line ≡ w) × LeastBefore first second w r line
 
 abbrev μ-loop : tie.MeasureT-loop
-μ-loop first second w end turns line₀ r₀ line r = turns - r
+μ-loop line₀ first second w end turns r₀ line r = turns - r
+
+clear-requires : tie.Need-clear-requires Inv-loop μ-loop
+clear-requires c κs = search needs
 
 loop-holds : tie.Need-loop-holds Inv-loop μ-loop
-unfolding cap
 loop-holds c =
-    let s = c .before .before in
-    (omega arith, refl, row-begins (s .args .first .now) (s .args .second .now) (s .args .w) mostWidth (s .pre .0))
-
-slice-aggregate-lower : tie.Need-slice-aggregate-lower Inv-loop μ-loop
-slice-aggregate-lower c = sym (c .before .before .loop .inv .1)
+    let clear = c .before .before .clear in
+    let s = c .before .before .before .before .before .before .before in
+    (omega arith, clear .kept .0 ∙ s .pre .0, row-begins (s .args .first .now) (s .args .second .now) (s .args .w) (clear .last .0) (clear .ensures))
 
 sub-lesser : tie.Need-sub-lesser Inv-loop μ-loop
-sub-lesser c = omega (arith, c .before .before .before .before .before .pre .1 .ends .1)
+sub-lesser c = omega (arith, c .before .before .before .before .before .before .before .before .before .before .pre .1 .ends .1)
 
 lesser-requires : tie.Need-lesser-requires Inv-loop μ-loop
 lesser-requires c κs = search needs
 
-mul-t15 : tie.Need-mul-t15 Inv-loop μ-loop
-mul-t15 c = let p = c .before .before .before .before .before .before .pre .1 in omega (arith, p .long .1, p .ends .1)
+mul-t17 : tie.Need-mul-t17 Inv-loop μ-loop
+mul-t17 c = let p = c .before .before .before .before .before .before .before .before .before .before .before .pre .1 in omega (arith, p .long .1, p .ends .1)
 
-shared-slice-read-t17 : tie.Need-shared-slice-read-t17 Inv-loop μ-loop
-shared-slice-read-t17 c = let p = c .before .before .before .before .before .before .before .pre .1 in omega (arith, p .long .1, p .ends .1)
+shared-slice-read-t19 : tie.Need-shared-slice-read-t19 Inv-loop μ-loop
+shared-slice-read-t19 c = let p = c .before .before .before .before .before .before .before .before .before .before .before .before .pre .1 in omega (arith, p .long .1, p .ends .1)
 
 lower-requires : tie.Need-lower-requires Inv-loop μ-loop
 lower-requires c κs =
-    let s = c .before .before .before .before .before .before .before in
-    let p = s .pre .1 in
+    let p = c .before .before .before .before .before .before .before .before .before .before .before .before .pre .1 in
     let l = c .before .before .before .before .loop in
     let e = c .before .lesser .ensures in (
       (omega (arith, e, p .ends .1, l .inv .1), omega (arith, e, p .long .0)),
@@ -56,21 +53,24 @@ loop-less c = search needs
 
 loop-again : tie.Need-loop-again Inv-loop μ-loop
 loop-again c =
-    let a = c .before .before .before .before .before .before .before .before .before .args in
-    let p = c .before .before .before .before .before .before .before .before .before .pre .1 in
-    let l = c .before .before .before .before .before .before .loop in
-    let e = c .before .before .before .lesser in (
+    let lower = c .before .before .lower in
+    let e = c .before .before .before .before .lesser in
+    let l = c .before .before .before .before .before .before .before .loop in
+    let s = c .before .before .before .before .before .before .before .before .before .before .before .before .before .before .before in (
       omega arith,
-      c .before .lower .kept .0 ∙ l .inv .1,
-      row-turns (a .first .now) (a .second .now) (a .w) (a .end) (l .r) (e .result) (l .line) (c .before .lower .last .0) (p .none .0) refl (e .ensures) (l .inv .2) (c .before .lower .ensures),
+      lower .kept .0 ∙ l .inv .1,
+      row-turns (s .args .first .now) (s .args .second .now) (s .args .w) (s .args .end) (l .r) (e .result) (l .line) (lower .last .0) (s .pre .1 .none .0) refl (e .ensures) (l .inv .2) (lower .ensures),
     )
+
+same-length : tie.Need-same-length Inv-loop μ-loop
+same-length c = search needs
 
 returns : tie.Need-returns Inv-loop μ-loop
 returns c =
-    let s = c .before .before .before .before in
+    let s = c .before .before .before .before .before .before .before .before .before in
     let l = c .before .loop in
     let all : l .r ≡ s .args .turns = omega arith in
-    row-ends (s .args .first .now) (s .args .second .now) (s .args .w) (s .args .turns) _ (omega (arith, l .inv .1)) (s .pre .1 .none .1) (rw (← all) (l .inv .2))
+    row-ends (s .args .first .now) (s .args .second .now) (s .args .w) (s .args .turns) _ (l .inv .1) (s .pre .1 .none .1) (rw (← all) (l .inv .2))
 
 pub joined-spec : {M : Type 1} → statement M
 joined-spec =
@@ -78,14 +78,15 @@ joined-spec =
     (tie.spec
     Inv-loop
     μ-loop
+    clear-requires
     loop-holds
-    slice-aggregate-lower
     sub-lesser
     lesser-requires
-    mul-t15
-    shared-slice-read-t17
+    mul-t17
+    shared-slice-read-t19
     lower-requires
     add-r
     loop-less
     loop-again
+    same-length
     returns)

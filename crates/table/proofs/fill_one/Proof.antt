@@ -1,46 +1,230 @@
--- `fill_one`: makes line (v, a), where u is v's ancestor at depth a, and stores it.
+-- `fill_one`: makes line (v, a), where u is v's ancestor at depth a.
+use mathlib.Core.Path.{_∙_}
+use Prim.Native.Nat.{_+_, _≤_}
+use native.Mathlib.Nat.{add-sub-cancel-left}
 use native.Mathlib.Omega.{arith}
+use lib.ListN.{length, getD}
 use borrow.Author.Needs.{needs}
-use Rattle.table.proofs.Places.{line-within}
-use Rattle.table.proofs.Room.{room-long}
-use Rattle.table.proofs.Reading.{served-place, served-width}
+use Rattle.laws.proofs.Stores.{length-part}
+use Rattle.model.specs.File.{treeOf, demandOf}
+use Rattle.best_rows.specs.Best.{cap}
+use Rattle.best_rows.specs.TreeRows.{nextSibling}
+use Rattle.best_rows.specs.BestAt.{bestAt, childrenAt}
+use Rattle.lines.specs.Line.{mostWidth, LineParts, RowBounds}
+use Rattle.lines.proofs.Known.{Known}
+use Rattle.lines.proofs.Row.{row-parts, row-is-line}
+use Rattle.table.specs.Table.{width}
+use Rattle.table.proofs.Lines.{line-read, line-put, parts-read}
+use Rattle.table.proofs.Room.{room-sound}
+use Rattle.table.proofs.Reading.{served-room, served-place, served-width, served-fits, children-place, own-place, siblings-place, row-counted, served-itself, served-above-it, lines-known, lines-bounded, next-before}
 use Rattle.table.proofs.fill_one.Statement.{statement}
 use Rattle.table.proofs.fill_one.Tie as tie
 
-made-line-requires : tie.Need-made-line-requires
-made-line-requires c κs = search needs
+-- the start, seen from where the three lines were read, and that place from where the width is known
+abbrev start : tie.After-line3 → tie.Start
+start c = c .before .before .before .before .before .before .before .before .before .before
 
-line-at-requires : tie.Need-line-at-requires
-line-at-requires c κs = let st = c .before .before .before .before .before .before in served-place (st .pre .0) (st .pre .1 .1)
+abbrev read : tie.After-width → tie.After-line3
+read c = c .before .before .before .before .before
+
+-- the three lines read are those of the children, with v as a cache and without, and of the later siblings
+known : (c : tie.After-line3) → let a = start c .args in
+    let t = treeOf (a .file .now) in
+    let d = demandOf (a .file .now) in
+    Known (width (a .tree)) (childrenAt t d (a .v) (a .u)) (bestAt t d (nextSibling t (a .v)) (a .u)) (c .before .before .line .result .now) (c .before .line2 .result .now) (c .line3 .result .now)
+known c =
+    let spare = c .before in
+    let taken = spare .before in
+    let deep = taken .before in
+    let next = deep .before in
+    let first = next .before in
+    let st = start c in
+    lines-known (st .pre .0) (st .pre .1 .1) (next-before (st .pre .0) (st .pre .1 .1)) (first .child-of .ensures) (next .sibling-of .ensures) (deep .depth-word .ensures)
+    (taken .line .ensures) (spare .line2 .ensures) (c .line3 .ensures)
+
+-- so the line can be made from them
+wide : (c : tie.After-width) → c .width .result ≤ mostWidth
+wide c = let st = start (read c) in omega (arith, c .width .ensures, served-width (st .pre .0) (st .pre .1 .1))
+
+parts : (c : tie.After-width) → let rest = read c in
+    LineParts (c .width .result) (rest .before .before .line .result .now) (rest .before .line2 .result .now) (rest .line3 .result .now) (c .before .before .before .before .pays .result .0) (c .before .before .before .pays2 .result .0)
+parts c =
+    let other = c .before .before .before in
+    let member = other .before in
+    let st = start (read c) in
+    parts-read _ _ _ (room-sound (st .pre .0 .ready .room)) (st .pre .1 .1) (known (read c)) (c .width .ensures) (member .pays .ensures) (other .pays2 .ensures)
+
+bounds : (c : tie.After-width) → let rest = read c in
+    let sizes = start (read c) .args .sizes .now in
+    RowBounds (c .width .result) (rest .before .before .line .result .now) (rest .before .line2 .result .now) (rest .line3 .result .now) (getD sizes (rest .before .before .before .before .before .child-of .result) 0) (getD sizes (rest .before .before .before .before .sibling-of .result) 0)
+bounds c =
+    let next = read c .before .before .before .before in
+    let st = start (read c) in
+    lines-bounded (st .pre .0) (st .pre .1 .1) (known (read c)) (st .pre .1 .0) (next .before .child-of .ensures) (next .sibling-of .ensures) (c .width .ensures)
+
+-- and it fits where it is to stand
+fits : (c : tie.After-line-at) → c .line-at .result + c .before .before .before .before .before .before .before .width .result ≤ length (start (read (c .before .before .before .before .before .before .before)) .args .s .now)
+fits c =
+    let w = c .before .before .before .before .before .before .before in
+    let st = start (read w) in
+    served-fits (st .pre .0) (st .pre .1 .1) (c .line-at .ensures) (w .width .ensures)
+
+child-of-requires : tie.Need-child-of-requires
+child-of-requires c κs = let st = c .before .before .before .before in served-room (st .pre .0) (st .pre .1 .1)
+
+sibling-of-requires : tie.Need-sibling-of-requires
+sibling-of-requires c κs = let st = c .before .before .before .before .before in served-room (st .pre .0) (st .pre .1 .1)
+
+depth-word-requires : tie.Need-depth-word-requires
+depth-word-requires c κs = let st = c .before .before .before .before .before .before in served-room (st .pre .0) (st .pre .1 .1)
+
+line-requires : tie.Need-line-requires
+line-requires c κs =
+    let first = c .before .before in
+    let st = first .before .before .before .before .before in
+    own-place (st .pre .0) (st .pre .1 .1) (first .child-of .ensures) (c .depth-word .ensures)
+
+line-requires-2 : tie.Need-line-requires-2
+line-requires-2 c κs =
+    let first = c .before .before .before in
+    let st = first .before .before .before .before .before in
+    children-place (st .pre .0) (st .pre .1 .1) (first .child-of .ensures)
+
+line-requires-3 : tie.Need-line-requires-3
+line-requires-3 c κs =
+    let next = c .before .before .before in
+    let st = next .before .before .before .before .before .before in
+    siblings-place (st .pre .0) (st .pre .1 .1) (next .sibling-of .ensures)
+
+pays-requires : tie.Need-pays-requires
+pays-requires c κs = let st = start c in served-itself (st .pre .0) (st .pre .1 .1)
+
+pays-requires-2 : tie.Need-pays-requires-2
+pays-requires-2 c κs = let st = start (c .before) in served-above-it (st .pre .0) (st .pre .1 .1)
+
+mul-below : tie.Need-mul-below
+mul-below c =
+    let first = c .before .before .before .before .before .before .before in
+    let st = first .before .before .before .before .before in
+    let place = children-place (st .pre .0) (st .pre .1 .1) (first .child-of .ensures) .0 in
+    omega (arith, place .node, place .nodes)
+
+shared-slice-read-below : tie.Need-shared-slice-read-below
+shared-slice-read-below c =
+    let first = c .before .before .before .before .before .before .before .before in
+    let st = first .before .before .before .before .before in
+    row-counted (st .pre .0) (st .pre .1 .0) (children-place (st .pre .0) (st .pre .1 .1) (first .child-of .ensures) .0 .node)
+
+mul-after : tie.Need-mul-after
+mul-after c =
+    let next = c .before .before .before .before .before .before .before in
+    let st = next .before .before .before .before .before .before in
+    let place = siblings-place (st .pre .0) (st .pre .1 .1) (next .sibling-of .ensures) .0 in
+    omega (arith, place .node, place .nodes)
+
+shared-slice-read-after : tie.Need-shared-slice-read-after
+shared-slice-read-after c =
+    let next = c .before .before .before .before .before .before .before .before in
+    let st = next .before .before .before .before .before .before in
+    row-counted (st .pre .0) (st .pre .1 .0) (siblings-place (st .pre .0) (st .pre .1 .1) (next .sibling-of .ensures) .0 .node)
 
 width-requires : tie.Need-width-requires
-width-requires c κs = let st = c .before .before .before .before .before .before .before in served-width (st .pre .0) (st .pre .1 .1)
+width-requires c κs = let st = start (c .before .before .before .before) in served-width (st .pre .0) (st .pre .1 .1)
 
-slice-aggregate-put : tie.Need-slice-aggregate-put
-slice-aggregate-put c = search needs
+slice-aggregate-own-line : tie.Need-slice-aggregate-own-line
+slice-aggregate-own-line c = search needs
 
-put-requires : tie.Need-put-requires
-put-requires c κs =
-    let wide = c .before in
-    let at = wide .before in
-    let st = at .before .before .before .before .before .before .before in
-    let place = served-place (st .pre .0) (st .pre .1 .1) in (
-      omega (arith, wide .width .ensures, place .budget),
-      omega (arith, at .line-at .ensures, wide .width .ensures, room-long (st .pre .0 .ready .room), line-within (st .args .tree) (st .args .v) (st .args .a) (place .node) (place .above)),
+own-line-requires : tie.Need-own-line-requires
+own-line-requires c κs = let w = c .before in ((wide w, bounds w .few .0), parts w .node-parts)
+
+slice-aggregate-copy : tie.Need-slice-aggregate-copy
+slice-aggregate-copy c = search needs
+
+copy-requires : tie.Need-copy-requires
+copy-requires c κs = let w = c .before .before .before .before in (wide w, parts w .rest-line .long)
+
+line-at-requires : tie.Need-line-at-requires
+line-at-requires c κs = let st = start (read (c .before .before .before .before .before .before)) in served-place (st .pre .0) (st .pre .1 .1)
+
+add-row-line : tie.Need-add-row-line
+add-row-line c = omega (arith, fits c, start (read (c .before .before .before .before .before .before .before)) .good .1 .1 .0)
+
+mul-row-line : tie.Need-mul-row-line
+mul-row-line c = omega (arith, fits c, start (read (c .before .before .before .before .before .before .before)) .good .1 .1 .0)
+
+sub-row-line : tie.Need-sub-row-line
+sub-row-line c = search needs
+
+part-row-line-start : tie.Need-part-row-line-start
+part-row-line-start c = search needs
+
+part-row-line-end : tie.Need-part-row-line-end
+part-row-line-end c = fits c
+
+slice-aggregate-row-line : tie.Need-slice-aggregate-row-line
+slice-aggregate-row-line c = search needs
+
+slice-aggregate-row-line-2 : tie.Need-slice-aggregate-row-line-2
+slice-aggregate-row-line-2 c = search needs
+
+row-line-requires : tie.Need-row-line-requires
+unfolding cap
+row-line-requires c κs =
+    let at = c .before .before .before in
+    let copy = at .before .before in
+    let own = copy .before .before .before in
+    let w = own .before .before in (
+      simp add-sub-cancel-left (length-part _ _ _ (fits at)),
+      (bounds w .few, row-parts (parts w) (bounds w) (wide w) (own .own-line .ensures) (copy .copy .ensures)),
     )
 
 same-length : tie.Need-same-length
 same-length c = search needs
 
 returns : tie.Need-returns
+unfolding cap
 returns c =
-    let put = c .before .before in
-    let wide = put .before .before in
-    let at = wide .before in
-    let made = at .before .before in
-    rw (at .line-at .ensures, wide .width .ensures, made .made-line .ensures) at (put .put .ensures)
+    let made = c .before .before in
+    let at = made .before .before .before .before in
+    let copy = at .before .before in
+    let own = copy .before .before .before in
+    let w = own .before .before in
+    let other = w .before .before .before in
+    let member = other .before in
+    let st = start (read w) in
+    let l = made .row-line .ensures ∙ row-is-line (parts w) (bounds w) (wide w) (own .own-line .ensures) (copy .copy .ensures) in
+    let is = line-read _ _ _ _ (st .pre .1 .1) (known (read w)) (w .width .ensures) (member .pays .ensures) (other .pays2 .ensures) l in
+    line-put _ _ _ (st .args .v) (st .args .a) _ _ (st .args .s .now) (fits at) (w .width .ensures) is ∙ rw (at .line-at .ensures)
 
 pub fill-one-spec : {M : Type 1} → statement M
 fill-one-spec =
     tie.close
-    (tie.spec made-line-requires line-at-requires width-requires slice-aggregate-put put-requires same-length returns)
+    (tie.spec
+    child-of-requires
+    sibling-of-requires
+    depth-word-requires
+    line-requires
+    line-requires-2
+    line-requires-3
+    pays-requires
+    pays-requires-2
+    mul-below
+    shared-slice-read-below
+    mul-after
+    shared-slice-read-after
+    width-requires
+    slice-aggregate-own-line
+    own-line-requires
+    slice-aggregate-copy
+    copy-requires
+    line-at-requires
+    add-row-line
+    mul-row-line
+    sub-row-line
+    part-row-line-start
+    part-row-line-end
+    slice-aggregate-row-line
+    slice-aggregate-row-line-2
+    row-line-requires
+    same-length
+    returns)
