@@ -88,9 +88,10 @@ static inline const uint64_t *line(const struct tree *t, const uint64_t *table, 
     return v ? table + ((size_t)v * (t->h + 1) + a) * (t->k + 1) : no_row;
 }
 
-/* A node's own line from those of its children, and the row's from it and that of the later siblings. */
+/* The most caches that can be had: among a node's descendants, with the node itself, among its later siblings, in the row. */
 struct counts { int below, top, later, all; };
 
+/* A row's line from those of its first node and of the later siblings. */
 static inline void join_splits(int k, struct counts c, const uint64_t *node, const uint64_t *rest, uint64_t *out)
 {
     for (int m = 0; m <= c.all; m++) {
@@ -125,6 +126,7 @@ static inline void join_runs(int k, struct counts c, const uint64_t *node, const
     }
 }
 
+/* A node's own line from those of its children, for each depth of the nearest cache above, then the row's. */
 static inline void fill_node(const struct tree *t, uint64_t *table, int v, enum fill fill)
 {
     int k = t->k, next = t->next[v], first = t->first[v], serving[DEPTH + 1];
