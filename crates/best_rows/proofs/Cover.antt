@@ -1,4 +1,5 @@
--- Where records stand in preorder, the server's row holds every node from 1 on, in order, and no row has more nodes than the tree.
+-- Where records stand in preorder: the server's row holds every node from 1 on, in order, a next sibling comes after the nodes
+-- below a site, and every row has fewer nodes than the tree.
 use mathlib.Core.Path.{_≡_, refl, sym, ap, _∙_}
 use mathlib.Core.Bool.{true, false}
 use mathlib.Core.List.{List, [], _∷_}

@@ -3,18 +3,14 @@ use mathlib.Core.Path.{_≡_, refl, sym, ap, _∙_}
 use mathlib.Core.Bool.{Bool}
 use mathlib.Core.List.{List, [], _∷_, _++_}
 use Prim.Native.Nat.{ℕ, _≤_, _<_}
-use native.Mathlib.Omega.{arith}
 use lib.ListN.{length, drop, set}
 use borrow.Author.Tests.{le-leb, lt-leb}
+use Rattle.laws.proofs.Stores.{sets-front}
 use Rattle.model.specs.File.{treeOf, countOf}
 use Rattle.model.specs.Rules.{Verdict, passed, broken, ask, _then_, fileVerdict, ascends, isSet, askSet}
 use Rattle.model.specs.Calls.{answered, refused, after, billVerdict, BillCall}
 use Rattle.model.specs.Hosts.{hostBillVerdict, HostBillCall}
 use Rattle.model.proofs.Verdicts.{answered-passed, refused-broken}
-
-first-stored : (l : List ℕ) (x : ℕ) → 1 ≤ length l → set l 0 x ≡ (x ∷ []) ++ drop 1 l
-first-stored [] x h = absurd (omega arith)
-first-stored (y ∷ l) x h = refl
 
 -- a verdict that ends in a refusal is one
 refusal-stays : (a b : Verdict) (q i : ℕ) (written old : List ℕ) → old ≡ after (a then b then broken q i) written old
@@ -71,7 +67,7 @@ module _ (file k totals servings loads : List ℕ) where
         let told = answered-passed (billVerdict file k servings loads) _ (call .answers) in
         record {
           verdict = sym (same-questions ∙ told .0);
-          totalsAfter = first-stored totals x room ∙ ap (λ y. (y ∷ []) ++ drop 1 totals) (told .1);
+          totalsAfter = sets-front totals (x ∷ []) room ∙ ap (λ y. (y ∷ []) ++ drop 1 totals) (told .1);
           servingsAfter = rw (told .0) at (call .servingsAfter);
           loadsAfter = rw (told .0) at (call .loadsAfter);
         }

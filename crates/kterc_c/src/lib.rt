@@ -8,13 +8,16 @@ ghost use Rattle.tree_file.specs.Checks.{verdictOf};
 use placement::Billed;
 use tree_file::Ruling;
 
+// The rule's number is one byte of an answer, and the record stands above it.
+const CODE_UNIT: u32 = 256;
+
 // A ruling as one number: record × 256 + number, 0 where no rule is broken.
 fn code_of(ruling: Ruling) -> u32
     ensures { λ r. ⌜ r ≡ codeOf (verdictOf ruling) ⌝ }
 {
     match ruling {
         Ruling::Passed => 0,
-        Ruling::Broken(q, record) => record as u32 * 256 + q as u32,
+        Ruling::Broken(q, record) => record as u32 * CODE_UNIT + q as u32,
     }
 }
 

@@ -11,23 +11,23 @@ use Rattle.model.specs.File.{Tree, Demand}
 use Rattle.model.specs.Rules.{Verdict, passed, broken, ask, _then_, recordVerdict, recordsVerdict, fileVerdict}
 use Rattle.model.specs.Calls.{planVerdict, greedyVerdict}
 use Rattle.model.specs.Report.{reportVerdict}
-use Rattle.model.specs.Hosts.{codeOf, hostBillVerdict}
+use Rattle.model.specs.Hosts.{codeUnit, codeOf, hostBillVerdict}
 use Rattle.model.proofs.Verdicts.{broken≢passed}
 
-pub code-reads : (q i : ℕ) → q < 256 → (codeOf (broken q i) % 256 ≡ q) × (codeOf (broken q i) / 256 ≡ i)
+pub code-reads : (q i : ℕ) → q < codeUnit → (codeOf (broken q i) % codeUnit ≡ q) × (codeOf (broken q i) / codeUnit ≡ i)
 code-reads q i h = (omega arith, omega arith)
 
 -- ---- the number of a broken rule is one byte, and not 0
 
 abbrev pub isByte : ℕ → Bool
-isByte q = ltb 0 q && ltb q 256
+isByte q = ltb 0 q && ltb q codeUnit
 
 pub record Numbered (v : Verdict) : Type 0 where
   pub byte : (q i : ℕ) → v ≡ broken q i → isByte q ≡ true
 
 pub code-none : (v : Verdict) → Numbered v → codeOf v ≡ 0 → v ≡ passed
 code-none passed h e = refl
-code-none (broken q i) h e = absurd (omega (arith, ltb-true 0 q (both (ltb 0 q) (ltb q 256) (h .byte q i refl) .0)))
+code-none (broken q i) h e = absurd (omega (arith, ltb-true 0 q (both (ltb 0 q) (ltb q codeUnit) (h .byte q i refl) .0)))
 
 both-numbered : (a b : Verdict) → Numbered a → Numbered b → Numbered (a then b)
 both-numbered passed b h g = g

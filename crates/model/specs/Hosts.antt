@@ -8,10 +8,14 @@ use Rattle.model.specs.Rules.{Verdict, passed, broken, _then_, fileVerdi
 use Rattle.model.specs.Bill.{total}
 use Rattle.model.specs.Calls.{after, billBuffersLong, servingNodes, linkLoads}
 
+-- the number of a question is one byte of the code
+abbrev pub codeUnit : ℕ
+codeUnit = 256
+
 -- record × 256 + number, and 0 where every question has its yes
 abbrev pub codeOf : Verdict → ℕ
 codeOf passed = 0
-codeOf (broken q i) = i * 256 + q
+codeOf (broken q i) = i * codeUnit + q
 
 -- the words of scratch that question 13 asks of an accepted file, 0 for a refused one
 unfoldable pub wordsAsked : List ℕ → ℕ
