@@ -13,7 +13,8 @@ use Rattle.model.specs.File.{Tree}
 use Rattle.model.specs.Tree.{sites, route, atOrBelow}
 use Rattle.model.specs.Rules.{isSet}
 use Rattle.model.specs.Ties.{members}
-use Rattle.model.proofs.Routes.{route-server, Preorder, parent-before, route-up, by-route, route-before}
+use Rattle.model.specs.Preorder.{Preorder}
+use Rattle.model.proofs.Routes.{route-server, parent-before, route-up, by-route, route-before}
 use Rattle.model.proofs.Ascending.{ascends-range, ascends-those, same-members}
 use Rattle.best_rows.specs.Rows.{Row, empty, node, rowNodes, choiceOf, rowCount}
 use Rattle.best_rows.specs.TreeRows.{rowAfter, serverRow}

@@ -14,7 +14,8 @@ use Rattle.laws.proofs.Bools.{by-test, not-both}
 use Rattle.laws.proofs.Lists.{has-cases, has-none, has-tail, has-other, length-range}
 use Rattle.model.specs.File.{Tree}
 use Rattle.model.specs.Tree.{route}
-use Rattle.model.proofs.Routes.{route-server, Preorder, parent-before, route-up, by-route, route-before}
+use Rattle.model.specs.Preorder.{Preorder}
+use Rattle.model.proofs.Routes.{route-server, parent-before, route-up, by-route, route-before}
 use Rattle.best_rows.specs.Rows.{Row, empty, node, rowNodes, rowSize}
 use Rattle.best_rows.specs.TreeRows.{rowAfter, nodesAfter, firstChild, nextSibling, rowAt}
 use Rattle.best_rows.proofs.TreeRows.{row-after-cases, row-after-child, row-after-other, row-at-first, row-at-node, next-sibling-stands}

@@ -6,6 +6,7 @@ use native.Mathlib.Decide.{decLe}
 use native.Mathlib.Omega.{arith}
 use lib.Dec.{ltb}
 use borrow.Author.Tests.{ltb-true, ltb-false}
+use Rattle.laws.specs.FirstLeast.{NoLaterBy}
 use Rattle.laws.proofs.Bools.{by-test}
 use Rattle.best_rows.specs.Least.{better, firstLeast, low}
 
@@ -19,10 +20,6 @@ pub better-min : {A : Type 0} (f : A → ℕ) (x y : A) → f (better f x y) ≡
 better-min f x y = better-cases (λ z. f z ≡ min (f x) (f y)) f x y (λ h. omega arith) (λ h. omega arith)
 
 module _ (f : ℕ → ℕ) where
-  -- i wins over j: it is less there, or as small and no later
-  abbrev pub Wins : ℕ → ℕ → Type 0
-  Wins i j = (f i ≤ f j) × (f i ≡ f j → i ≤ j)
-
   pub first-least-within : (n : ℕ) → firstLeast f n ≤ n
   unfolding firstLeast
   first-least-within zero = omega arith
@@ -30,7 +27,7 @@ module _ (f : ℕ → ℕ) where
       let earlier = first-least-within n in
       better-cases (λ i. i ≤ suc n) f _ _ (λ h. omega arith) (λ h. omega arith)
 
-  pub first-least-wins : (n j : ℕ) → j ≤ n → Wins (firstLeast f n) j
+  pub first-least-wins : (n j : ℕ) → j ≤ n → NoLaterBy f (firstLeast f n) j
   unfolding firstLeast
   first-least-wins zero zero h = omega arith
   first-least-wins zero (suc j) h = omega arith
@@ -38,11 +35,11 @@ module _ (f : ℕ → ℕ) where
       elim (decLe j n) [
         | yes i ↦
             let earlier = first-least-wins n j i in
-            better-cases (λ i. Wins i j) f _ _ (λ less. omega arith) (λ more. earlier)
+            better-cases (λ i. NoLaterBy f i j) f _ _ (λ less. omega arith) (λ more. earlier)
         | no i ↦
             let e : f j ≡ f (suc n) = ap f (omega arith) in
             let earlier = first-least-within n in
-            better-cases (λ i. Wins i j) f _ _ (λ h. omega arith) (λ h. omega arith)
+            better-cases (λ i. NoLaterBy f i j) f _ _ (λ h. omega arith) (λ h. omega arith)
       ]
 
   -- the least that a loop keeps is f at the first of the least, or top

@@ -7,7 +7,8 @@ use Rattle.model.specs.File.{Tree, Demand, treeOf, demandOf}
 use Rattle.model.specs.Rules.{passed, fileVerdict}
 use Rattle.model.specs.Bill.{total}
 use Rattle.model.specs.Plan.{plan, planTotal}
-use Rattle.model.proofs.Accepted.{Sound, accepted-sound}
+use Rattle.model.specs.Accepted.{Sound}
+use Rattle.model.proofs.Accepted.{accepted-sound}
 use Rattle.model.proofs.Plans.{only-plan}
 use Rattle.best_rows.specs.Least.{firstLeast}
 use Rattle.best_rows.specs.Rows.{chosen}

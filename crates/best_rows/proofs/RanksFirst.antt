@@ -10,11 +10,11 @@ use Rattle.model.specs.File.{Tree, Demand}
 use Rattle.model.specs.Rules.{ascends, isSet}
 use Rattle.model.specs.Bill.{total}
 use Rattle.model.specs.Ties.{tiesBefore, ranksBefore}
-use Rattle.model.proofs.Accepted.{Sound}
+use Rattle.model.specs.Accepted.{Sound}
+use Rattle.model.specs.Laws.{RanksFirst}
 use Rattle.model.proofs.Ascending.{ascends-range}
 use Rattle.model.proofs.Bounds.{total-bound}
 use Rattle.model.proofs.Order.{smaller-said, rank-total}
-use Rattle.model.proofs.Plans.{RanksFirst}
 use Rattle.best_rows.specs.Least.{firstLeast}
 use Rattle.best_rows.specs.Rows.{Choice, rowNodes, choiceOf, chosen, rowCount, rowCost, RanksNoLater}
 use Rattle.best_rows.specs.Best.{cap, best, chooseWithin}

@@ -10,7 +10,7 @@ use Rattle.model.specs.File.{Tree}
 use Rattle.model.specs.Tree.{sites}
 use Rattle.model.specs.Rules.{isSet}
 use Rattle.model.specs.Ties.{havingFirst, visits}
-use Rattle.model.proofs.Routes.{Preorder}
+use Rattle.model.specs.Preorder.{Preorder}
 use Rattle.model.proofs.Order.{smaller-said}
 use Rattle.best_rows.specs.Rows.{rowNodes, choiceOf, favour, Before}
 use Rattle.best_rows.specs.TreeRows.{rowAfter, serverRow}

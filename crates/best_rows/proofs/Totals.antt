@@ -8,7 +8,8 @@ use Rattle.laws.specs.Lists.{range, sum, has}
 use Rattle.model.specs.File.{Tree, Demand}
 use Rattle.model.specs.Tree.{distance}
 use Rattle.model.specs.Bill.{thousandths, price, cost, total, serving}
-use Rattle.model.proofs.Routes.{Preorder, distance-server}
+use Rattle.model.specs.Preorder.{Preorder}
+use Rattle.model.proofs.Routes.{distance-server}
 use Rattle.model.proofs.Nearest.{serving-server, serving-up, cost-is}
 use Rattle.best_rows.specs.Rows.{rowNodes, choiceOf, rowCost}
 use Rattle.best_rows.specs.TreeRows.{rowAfter, serverRow}

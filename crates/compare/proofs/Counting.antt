@@ -12,8 +12,8 @@ use Rattle.laws.proofs.Counts.{bit-le, how-many-snoc, how-many-le}
 use Rattle.model.specs.File.{Tree, treeOf, demandOf, mostNodes}
 use Rattle.model.specs.Tree.{atOrBelow}
 use Rattle.model.specs.Ties.{members}
-use Rattle.model.proofs.Routes.{Preorder}
-use Rattle.model.proofs.Accepted.{Sound}
+use Rattle.model.specs.Preorder.{Preorder}
+use Rattle.model.specs.Accepted.{Sound}
 use Rattle.model.proofs.Intervals.{below-self, before-not-below, parent-earlier, below-other}
 use Rattle.placement.specs.Passes.{Billable}
 use Rattle.placement.proofs.Members.{set-size, entry-in-set}

@@ -15,7 +15,7 @@ use Rattle.model.specs.File.{Tree, Demand, treeOf, demandOf, countOf, mostNodes
 use Rattle.model.specs.Rules.{isSet}
 use Rattle.model.specs.Bill.{total}
 use Rattle.model.specs.Ties.{smallerFirst, havingFirst, members, visits, tiesBefore, ranksBefore}
-use Rattle.model.proofs.Accepted.{Sound}
+use Rattle.model.specs.Accepted.{Sound}
 use Rattle.placement.proofs.Members.{set-size, cursor-bound, cursor-begins, cursor-turns}
 use Rattle.compare.specs.Counting.{Comparable, VisitedTo}
 

@@ -10,7 +10,7 @@ use Rattle.laws.specs.FirstGreatest.{FirstGreatest}
 use Rattle.laws.proofs.FirstGreatest.{search-skips}
 use Rattle.model.specs.File.{Tree, Demand, treeOf, demandOf, mostLength, mostDepth}
 use Rattle.model.specs.Tree.{distance}
-use Rattle.model.proofs.Routes.{Preorder}
+use Rattle.model.specs.Preorder.{Preorder}
 use Rattle.model.proofs.Bounds.{distance-bound}
 use Rattle.node_words.specs.Words.{distanceWord, wordOf}
 use Rattle.node_words.proofs.Words.{room-sound, room-some}

@@ -10,9 +10,10 @@ use Rattle.laws.proofs.Sums.{sum-snoc, sum-fewer}
 use Rattle.model.specs.File.{Tree, Demand, treeOf, demandOf}
 use Rattle.model.specs.Tree.{distance}
 use Rattle.model.specs.Bill.{thousandths, price, cost, total, serving}
-use Rattle.model.proofs.Routes.{Preorder, by-route, distance-server}
+use Rattle.model.specs.Preorder.{Preorder}
+use Rattle.model.specs.Accepted.{Sound}
+use Rattle.model.proofs.Routes.{by-route, distance-server}
 use Rattle.model.proofs.Nearest.{serving-server, serving-up, cost-is}
-use Rattle.model.proofs.Accepted.{Sound}
 use Rattle.model.proofs.Bounds.{total-bound}
 use Rattle.node_words.specs.Words.{distanceWord, wordOf}
 use Rattle.node_words.proofs.Words.{room-sound}

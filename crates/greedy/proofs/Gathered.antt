@@ -14,8 +14,9 @@ use Rattle.laws.proofs.Lists.{range-bounds}
 use Rattle.laws.proofs.Sums.{sum-add, sum-none, sum-swap, sum-same, sum-zero, sum-where, sum-those, sum-le, sum-point}
 use Rattle.model.specs.File.{Tree, Demand, mostFlow, mostHit}
 use Rattle.model.specs.Tree.{nodes, sites}
-use Rattle.model.proofs.Accepted.{Sound}
-use Rattle.model.proofs.Routes.{Preorder, parent-before, by-route}
+use Rattle.model.specs.Preorder.{Preorder}
+use Rattle.model.specs.Accepted.{Sound}
+use Rattle.model.proofs.Routes.{parent-before, by-route}
 use Rattle.greedy.specs.Savings.{cachable, mostReach, reaches, reach, gathered}
 use Rattle.greedy.proofs.Reaches.{reach-counts, reaches-server, reaches-up, reaches-self, reaches-before}
 

@@ -13,7 +13,8 @@ use Rattle.laws.proofs.Sums.{sum-add, sum-same, sum-where}
 use Rattle.model.specs.File.{Tree, Demand}
 use Rattle.model.specs.Tree.{nodes}
 use Rattle.model.specs.Greedy.{withNode}
-use Rattle.model.proofs.Routes.{Preorder, parent-before, by-route}
+use Rattle.model.specs.Preorder.{Preorder}
+use Rattle.model.proofs.Routes.{parent-before, by-route}
 use Rattle.model.proofs.WithNode.{has-with-node}
 use Rattle.greedy.specs.Savings.{cachable, reaches, servingDistance, reach}
 use Rattle.greedy.proofs.Reaches.{reach-counts, serving-distance-server, serving-distance-up, reaches-server, reaches-up, reaches-self, reaches-before}

@@ -13,7 +13,8 @@ use Rattle.model.specs.File.{Tree, Demand}
 use Rattle.model.specs.Tree.{nodes, distance}
 use Rattle.model.specs.Bill.{serving}
 use Rattle.model.specs.Greedy.{withNode}
-use Rattle.model.proofs.Routes.{Preorder, parent-before, by-route}
+use Rattle.model.specs.Preorder.{Preorder}
+use Rattle.model.proofs.Routes.{parent-before, by-route}
 use Rattle.model.proofs.Nearest.{serving-server, serving-up, serving-near}
 use Rattle.model.proofs.WithNode.{has-with-node}
 use Rattle.greedy.specs.Savings.{cachable, reaches, servingDistance, reach}

@@ -18,7 +18,8 @@ use Rattle.model.specs.File.{Tree, Demand, treeOf, demandOf, budgetOf, mostBudg
 use Rattle.model.specs.Bill.{total}
 use Rattle.model.specs.Greedy.{withNode, greedyNodes, greedySet, greedyTotal}
 use Rattle.model.specs.Calls.{greedyTotals, greedyRow}
-use Rattle.model.proofs.Accepted.{Sound, accepted-header}
+use Rattle.model.specs.Accepted.{Sound}
+use Rattle.model.proofs.Accepted.{accepted-header}
 use Rattle.model.proofs.GreedyRuns.{greedy-runs}
 use Rattle.model.proofs.Written.{length-greedy-totals, length-greedy-row}
 use Rattle.node_words.specs.Words.{NodeRoom, Measured}

@@ -12,7 +12,7 @@ use Rattle.model.specs.File.{Tree, Demand}
 use Rattle.model.specs.Tree.{nodes, distance}
 use Rattle.model.specs.Bill.{thousandths, price, cost, total, serving}
 use Rattle.model.specs.Greedy.{withNode}
-use Rattle.model.proofs.Routes.{Preorder}
+use Rattle.model.specs.Preorder.{Preorder}
 use Rattle.model.proofs.Nearest.{serving-near, cost-is}
 use Rattle.greedy.specs.Savings.{cachable, reaches, servingDistance, saving}
 use Rattle.greedy.proofs.Reaches.{reach-counts, reaches-served, serving-without}

@@ -9,8 +9,8 @@ use Rattle.laws.specs.FirstGreatest.{FirstGreatest}
 use Rattle.model.specs.File.{Tree, Demand}
 use Rattle.model.specs.Bill.{thousandths, total}
 use Rattle.model.specs.Greedy.{withNode}
-use Rattle.model.proofs.Routes.{Preorder}
-use Rattle.model.proofs.GreedySteps.{Takes, Rests}
+use Rattle.model.specs.Preorder.{Preorder}
+use Rattle.model.specs.Laws.{Takes, Rests}
 use Rattle.greedy.specs.Savings.{saving}
 use Rattle.greedy.proofs.Saved.{saving-is, total-after}
 

@@ -12,7 +12,7 @@ use Rattle.laws.proofs.Bools.{by-test}
 use Rattle.laws.proofs.Fronts.{front-only-then}
 use Rattle.model.specs.File.{Tree, Demand, treeOf, demandOf}
 use Rattle.model.specs.Greedy.{withNode}
-use Rattle.model.proofs.Routes.{Preorder}
+use Rattle.model.specs.Preorder.{Preorder}
 use Rattle.node_words.specs.Words.{wordAt, wordOf, SiteRoom}
 use Rattle.node_words.proofs.Words.{room-sound, room-parent, room-kept}
 use Rattle.greedy.specs.Savings.{reaches, reach}

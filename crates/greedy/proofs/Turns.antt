@@ -11,8 +11,9 @@ use Rattle.laws.specs.FirstGreatest.{FirstGreatest}
 use Rattle.model.specs.File.{Tree, Demand}
 use Rattle.model.specs.Bill.{thousandths, total}
 use Rattle.model.specs.Greedy.{withNode, withNodes, takenFrom, greedyNodes, greedySet, greedyTotal}
-use Rattle.model.proofs.Routes.{Preorder}
-use Rattle.model.proofs.GreedySteps.{Takes, Rests, only-takes, takes-not-rests}
+use Rattle.model.specs.Preorder.{Preorder}
+use Rattle.model.specs.Laws.{Takes, Rests}
+use Rattle.model.proofs.GreedySteps.{only-takes, takes-not-rests}
 use Rattle.model.proofs.GreedyRuns.{greedy-runs, greedy-prefix}
 use Rattle.greedy.specs.Savings.{saving}
 use Rattle.greedy.proofs.Saved.{saving-within-total}

@@ -3,7 +3,7 @@ pub mod Statements
 pub mod Bools
 pub mod Lists
 pub mod Counts
-pub mod Leads
+pub mod FirstLeast
 pub mod Sums
 pub mod Stores
 pub mod Rows

@@ -6,8 +6,9 @@ use native.Mathlib.Decide.{decLt}
 use native.Mathlib.Omega.{arith}
 use lib.Dec.{ltb}
 use borrow.Author.Tests.{ltb-true, ltb-false}
+use Rattle.laws.specs.FirstLeast.{NoLaterBy}
 use Rattle.best_rows.specs.Least.{better, firstLeast}
-use Rattle.best_rows.proofs.Least.{Wins, first-least-within, first-least-wins}
+use Rattle.best_rows.proofs.Least.{first-least-within, first-least-wins}
 
 pub first-least-same : (f g : ℕ → ℕ) (n : ℕ) → ((i : ℕ) → i ≤ n → f i ≡ g i)
     → (firstLeast f n ≡ firstLeast g n) × (f (firstLeast f n) ≡ g (firstLeast g n))
@@ -24,7 +25,7 @@ module _ (f : ℕ → ℕ) where
   -- of `start` to r − 1, f is least at `first` first, and it is `least` there
   pub record FirstFrom (start r first least : ℕ) : Type 0 where
     pub inside : (start ≤ first) × (first < r)
-    pub wins : (i : ℕ) → start ≤ i → i < r → Wins f first i
+    pub wins : (i : ℕ) → start ≤ i → i < r → NoLaterBy f first i
     pub value : least ≡ f first
 
   pub first-begins : {start least : ℕ} → least ≡ f start → FirstFrom start (start + 1) start least
@@ -36,7 +37,7 @@ module _ (f : ℕ → ℕ) where
 
   module _ {start r first least sum : ℕ} {less : Bool} (so-far : FirstFrom start r first least) (is : sum ≡ f r) (test : less ≡ ltb sum least) where
     -- what wins over r and, where `first` does, over those before it
-    wins-next : (x : ℕ) → Wins f x r → ((i : ℕ) → Wins f first i → Wins f x i) → (i : ℕ) → start ≤ i → i < r + 1 → Wins f x i
+    wins-next : (x : ℕ) → NoLaterBy f x r → ((i : ℕ) → NoLaterBy f first i → NoLaterBy f x i) → (i : ℕ) → start ≤ i → i < r + 1 → NoLaterBy f x i
     wins-next x last before i h k =
         elim (decLt i r) [
           | yes l ↦ before i (so-far .wins i h l)
@@ -63,7 +64,7 @@ module _ (f : ℕ → ℕ) where
           value = so-far .value;
         }
 
-  wins-both : {i j : ℕ} → Wins f i j → Wins f j i → i ≡ j
+  wins-both : {i j : ℕ} → NoLaterBy f i j → NoLaterBy f j i → i ≡ j
   wins-both {i} {j} p q = let same : f i ≡ f j = omega arith in omega (arith, p .1 same, q .1 (sym same))
 
   -- before the start there is none so small

@@ -1,6 +1,6 @@
 -- What holds of an accepted file: its sizes, its preorder, and the limits of its fields at every node number.
 use mathlib.Core.Path.{_≡_, refl, ap, _∙_}
-use mathlib.Core.Bool.{true, _&&_}
+use mathlib.Core.Bool.{_&&_}
 use mathlib.Core.List.{List}
 use Prim.Native.Nat.{ℕ, zero, suc, _+_, _≤_, _<_}
 use native.Mathlib.Decide.{decLt}
@@ -13,18 +13,12 @@ use Rattle.laws.proofs.Bools.{both}
 use Rattle.model.specs.File.{Tree, Demand, Field, number, fieldOf, treeOf, demandOf, version, headerLength, versionOf, countOf, budgetOf, recordAt, mostNodes, mostBudget, mostDepth, mostLength, mostFlow, mostHit, parentField, lengthField, flowField, hitField}
 use Rattle.model.specs.Tree.{depth}
 use Rattle.model.specs.Rules.{passed, ask, parentHolds, lengthHolds, recordVerdict, recordsVerdict, marked, fileVerdict}
+use Rattle.model.specs.Preorder.{Preorder}
+use Rattle.model.specs.Accepted.{HeaderHolds, RecordHolds, Sound}
 use Rattle.model.proofs.Verdicts.{ask-passed, then-passed}
-use Rattle.model.proofs.Routes.{Preorder, route-server, route-ends, route-up}
+use Rattle.model.proofs.Routes.{route-server, route-ends, route-up}
 
 -- ---- the header
-
--- what rules 4 to 6 say of the header
-pub record HeaderHolds (s : List ℕ) : Type 0 where
-  pub some : 1 ≤ countOf s
-  pub few : countOf s ≤ mostNodes
-  pub budget : budgetOf s ≤ mostBudget
-  pub exact : length s ≡ recordAt (countOf s)
-  pub records : recordsVerdict (treeOf s) (demandOf s) (countOf s) ≡ passed
 
 pub accepted-header : (s : List ℕ) → fileVerdict s ≡ passed → HeaderHolds s
 unfolding fileVerdict
@@ -57,14 +51,6 @@ each-record t d (suc n) i e h =
       | no l ↦ let same : i ≡ n = omega arith in ap (recordVerdict t d) same ∙ p .1
     ]
 
--- what rules 7 to 11 say of record i
-pub record RecordHolds (t : Tree) (d : Demand) (i : ℕ) : Type 0 where
-  pub parent : parentHolds t i ≡ true
-  pub shallow : depth t i ≤ mostDepth
-  pub linkLength : lengthHolds t i ≡ true
-  pub flow : d .flow i ≤ mostFlow
-  pub hit : d .hit i ≤ mostHit
-
 pub record-holds : (t : Tree) (d : Demand) (i : ℕ) → recordVerdict t d i ≡ passed → RecordHolds t d i
 unfolding recordVerdict
 record-holds t d i e =
@@ -92,17 +78,6 @@ unfolding fieldOf
 field-past s f i e h = number-past (f .width) s (recordAt i + f .offset) (omega arith)
 
 -- ---- the whole file
-
--- what the laws ask of a tree and its demand, at every node number
-pub record Sound (t : Tree) (d : Demand) : Type 0 where
-  pub some : 1 ≤ t .count
-  pub few : t .count ≤ mostNodes
-  pub preorder : Preorder t
-  pub server : t .linkLength 0 ≡ 0
-  pub shallow : (v : ℕ) → depth t v ≤ mostDepth
-  pub short : (v : ℕ) → t .linkLength v ≤ mostLength
-  pub flow : (v : ℕ) → d .flow v ≤ mostFlow
-  pub hit : (v : ℕ) → d .hit v ≤ mostHit
 
 module _ (s : List ℕ) (ok : fileVerdict s ≡ passed) where
   head : HeaderHolds s

@@ -10,9 +10,9 @@ use Rattle.laws.proofs.Sums.{sum-le}
 use Rattle.model.specs.File.{Tree, Demand, mostDepth, mostLength, mostFlow}
 use Rattle.model.specs.Tree.{nodes, route, depth, height, distance}
 use Rattle.model.specs.Bill.{thousandths, totalLimit, price, cost, total, serving}
+use Rattle.model.specs.Accepted.{Sound}
 use Rattle.model.proofs.Routes.{route-server, route-up, by-route}
 use Rattle.model.proofs.Nearest.{cost-is}
-use Rattle.model.proofs.Accepted.{Sound}
 
 module _ (t : Tree) (d : Demand) (ok : Sound t d) where
   -- a route has a node more than its depth, and the server's length is 0

@@ -16,17 +16,11 @@ use Rattle.laws.proofs.Ranges.{those-inside}
 use Rattle.model.specs.File.{Tree, Demand}
 use Rattle.model.specs.Tree.{nodes, sites, route, atOrBelow}
 use Rattle.model.specs.Bill.{thousandths, upTo, clientLoad, linkLoad}
-use Rattle.model.proofs.Routes.{route-server, Preorder, parent-before, route-up, by-route, route-before}
+use Rattle.model.specs.Preorder.{Preorder}
+use Rattle.model.specs.Children.{childOf, relieved}
+use Rattle.model.proofs.Routes.{route-server, parent-before, route-up, by-route, route-before}
 use Rattle.model.proofs.Intervals.{below-self, parent-earlier, below-parent, none-from}
 use Rattle.model.proofs.Loads.{sent, bears, bears-up, bears-here, link-load-is}
-
--- what the client at c sends over a link once a cache has served it
-abbrev pub relieved : Demand → ℕ → ℕ
-relieved d c = d .flow c * (thousandths - d .hit c)
-
--- is u a child of v?
-abbrev pub childOf : Tree → ℕ → ℕ → Bool
-childOf t v u = eqb (t .parent u) v
 
 -- the children of v stand in its subtree, which node e ends
 pub children-in-subtree : (t : Tree) → Preorder t → (v e : ℕ) → v < e → e ≤ t .count → (e < t .count → atOrBelow t v e ≡ false)

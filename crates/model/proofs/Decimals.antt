@@ -8,6 +8,7 @@ use native.Mathlib.Omega.{arith}
 use lib.ListN.{length, length-append}
 use borrow.Author.Tests.{lt-ltb, le-ltb}
 use Rattle.model.specs.Report.{digit, digits, decimal}
+use Rattle.model.specs.Laws.{readAfter}
 
 -- ---- digit by digit
 
@@ -59,11 +60,6 @@ pub decimal-of-word : (x : ℕ) → x < 2 ^ 64 → length (decimal x) ≤ 20
 decimal-of-word x h = decimal-short 19 x (omega arith)
 
 -- ---- what it reads as
-
--- the number that a text of digits stands for, after a number x already read
-unfoldable pub readAfter : ℕ → List ℕ → ℕ
-readAfter x [] = x
-readAfter x (c ∷ cs) = readAfter (10 * x + (c - digit 0)) cs
 
 read-snoc : (x c : ℕ) (cs : List ℕ) → readAfter x (cs ++ (c ∷ [])) ≡ 10 * readAfter x cs + (c - digit 0)
 unfolding readAfter

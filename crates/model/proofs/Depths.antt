@@ -6,7 +6,8 @@ use lib.ListN.{length}
 use Rattle.laws.proofs.Lists.{in-range, greatest-over}
 use Rattle.model.specs.File.{Tree}
 use Rattle.model.specs.Tree.{climb, nodes, route, depth, height}
-use Rattle.model.proofs.Routes.{route-server, Preorder, route-up}
+use Rattle.model.specs.Preorder.{Preorder}
+use Rattle.model.proofs.Routes.{route-server, route-up}
 
 module _ (t : Tree) where
   climb-some : (k v : ℕ) → 1 ≤ length (climb (t .parent) k v)

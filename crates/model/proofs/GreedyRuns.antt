@@ -4,26 +4,16 @@ use mathlib.Core.Bool.{true, or-false}
 use mathlib.Core.List.{List, [], _∷_}
 use Prim.Native.Nat.{ℕ, zero, suc, _≤_, _<_}
 use native.Mathlib.Omega.{arith}
-use lib.ListN.{length, take, getD}
+use lib.ListN.{length, take}
 use Rattle.laws.specs.Lists.{has}
 use Rattle.model.specs.File.{Tree, Demand}
 use Rattle.model.specs.Rules.{ascends, isSet}
 use Rattle.model.specs.Plan.{planTotal}
 use Rattle.model.specs.Greedy.{withNode, withNodes, stops, takes, takenFrom, greedyNodes, greedySet, greedyTotal}
+use Rattle.model.specs.Laws.{Takes, Rests, RunFrom, GreedyRun}
 use Rattle.model.proofs.Plans.{plan-least}
 use Rattle.model.proofs.WithNode.{ascends-with-node, length-with-nodes, has-with-nodes}
-use Rattle.model.proofs.GreedySteps.{Takes, Rests, step-cases, only-takes, takes-not-rests}
-
--- g are the nodes that the greedy rule takes from K in at most b steps, in the order taken
-pub record RunFrom (t : Tree) (d : Demand) (k : List ℕ) (b : ℕ) (g : List ℕ) : Type 0 where
-  pub within : length g ≤ b
-  pub steps : (j : ℕ) → j < length g → Takes t d (withNodes k (take j g)) (getD g j 0)
-  -- fewer than b only where no node outside lowers the total
-  pub stop : length g < b → Rests t d (withNodes k g)
-
--- those that it takes from the empty set
-abbrev pub GreedyRun : Tree → Demand → ℕ → List ℕ → Type 0
-GreedyRun t d b g = RunFrom t d [] b g
+use Rattle.model.proofs.GreedySteps.{step-cases, only-takes, takes-not-rests}
 
 module _ (t : Tree) (d : Demand) where
   -- ---- the nodes taken from any set

@@ -8,29 +8,17 @@ use native.Mathlib.Omega.{arith}
 use lib.Dec.{ltb}
 use borrow.Author.Tests.{ltb-true, ltb-false, not-true}
 use Rattle.laws.specs.Lists.{has}
+use Rattle.laws.specs.FirstLeast.{FirstLeast}
 use Rattle.laws.proofs.Bools.{by-test, both}
 use Rattle.laws.proofs.Lists.{has-head, has-tail, has-none, in-range, has-those}
-use Rattle.laws.proofs.Leads.{LeadsAll, leads-self, leads-one, leads-two}
+use Rattle.laws.proofs.FirstLeast.{no-later-self, no-later-smaller, first-least-one, first-least-two}
 use Rattle.model.specs.File.{Tree, Demand}
 use Rattle.model.specs.Tree.{sites}
 use Rattle.model.specs.Rules.{ascends, isSet}
 use Rattle.model.specs.Bill.{total}
-use Rattle.model.specs.Greedy.{withNode, Step, stops, takes, outside, totalWith, leastNode, stepOver}
+use Rattle.model.specs.Greedy.{Step, stops, takes, outside, totalWith, leastNode, stepOver}
+use Rattle.model.specs.Laws.{Takes, Rests}
 use Rattle.model.proofs.Ascending.{ascends-cons, ascends-bounds, ascends-lower, ascends-range, ascends-those}
-
--- v is the node that the greedy rule takes from K
-pub record Takes (t : Tree) (d : Demand) (k : List ℕ) (v : ℕ) : Type 0 where
-  pub site : (1 ≤ v) × (v < t .count)
-  pub outside : has k v ≡ false
-  pub lowers : total t d (withNode v k) < total t d k
-  -- no other node outside K undercuts it
-  pub least : (u : ℕ) → 1 ≤ u → u < t .count → has k u ≡ false → total t d (withNode v k) ≤ total t d (withNode u k)
-  -- every smaller-numbered one exceeds it
-  pub smallest : (u : ℕ) → 1 ≤ u → u < v → has k u ≡ false → total t d (withNode v k) < total t d (withNode u k)
-
--- no node outside K lowers the total
-pub record Rests (t : Tree) (d : Demand) (k : List ℕ) : Type 0 where
-  pub noneLowers : (u : ℕ) → 1 ≤ u → u < t .count → has k u ≡ false → total t d k ≤ total t d (withNode u k)
 
 module _ (t : Tree) (d : Demand) where
   -- ---- the nodes outside a set
@@ -47,39 +35,39 @@ module _ (t : Tree) (d : Demand) where
   -- ---- a step
 
   least-node : (k : List ℕ) (u : ℕ) (us : List ℕ) → ascends u (t .count) us ≡ true
-      → LeadsAll (totalWith t d k) (u ∷ us) (leastNode t d k u us)
+      → FirstLeast (totalWith t d k) (u ∷ us) (leastNode t d k u us)
   unfolding leastNode
-  least-node k u [] h = leads-one (totalWith t d k) u
+  least-node k u [] h = first-least-one (totalWith t d k) u
   least-node k u (v ∷ vs) h =
       let f = totalWith t d k in
       let parts = ascends-cons (t .count) u v vs .0 h in
       let from-u = least-node k u vs (ascends-lower (t .count) u v vs (omega arith) (parts .2)) in
       let from-v = least-node k v vs (parts .2) in
-      by-test (λ b. LeadsAll f (u ∷ v ∷ vs) (leastNode t d k (cond b v u) vs)) (ltb (f v) (f u))
-      (λ e. leads-two f u v v _ vs (has-tail u v (v ∷ vs) (has-head v vs)) (omega (arith, ltb-true)) (leads-self f v) from-v)
-      (λ e. leads-two f u v u _ vs (has-head u (v ∷ vs)) (leads-self f u) (omega (arith, ltb-false)) from-u)
+      by-test (λ b. FirstLeast f (u ∷ v ∷ vs) (leastNode t d k (cond b v u) vs)) (ltb (f v) (f u))
+      (λ e. first-least-two f u v v _ vs (has-tail u v (v ∷ vs) (has-head v vs)) (omega (arith, ltb-true)) (no-later-self f v) from-v)
+      (λ e. first-least-two f u v u _ vs (has-head u (v ∷ vs)) (no-later-self f u) (omega (arith, ltb-false)) from-u)
 
   -- a fact of a step over an ascending list, by what it does
   step-over {ℓ} : (P : Step → Type ℓ) (k l : List ℕ) → isSet t l ≡ true
       → (((u : ℕ) → has l u ≡ true → total t d k ≤ totalWith t d k u) → P stops)
-      → ((v : ℕ) → LeadsAll (totalWith t d k) l v → totalWith t d k v < total t d k → P (takes v)) → P (stepOver t d k l)
+      → ((v : ℕ) → FirstLeast (totalWith t d k) l v → totalWith t d k v < total t d k → P (takes v)) → P (stepOver t d k l)
   unfolding stepOver
   step-over P k [] h resting taking = resting (λ u m. absurd (has-none u m))
   step-over P k (u ∷ us) h resting taking =
       let v = leastNode t d k u us in
-      let leader = least-node k u us (ascends-cons (t .count) 0 u us .0 h .2) in
-      by-test (λ b. P (cond b (takes v) stops)) (ltb (totalWith t d k v) (total t d k)) (λ e. taking v leader (ltb-true _ _ e))
-      (λ e. resting (λ w m. omega (arith, ltb-false, leader .leads w m .0)))
+      let first = least-node k u us (ascends-cons (t .count) 0 u us .0 h .2) in
+      by-test (λ b. P (cond b (takes v) stops)) (ltb (totalWith t d k v) (total t d k)) (λ e. taking v first (ltb-true _ _ e))
+      (λ e. resting (λ w m. omega (arith, ltb-false, first .noLater w m .0)))
 
-  leader-taken : (k : List ℕ) (v : ℕ) → LeadsAll (totalWith t d k) (outside t k) v → totalWith t d k v < total t d k → Takes t d k v
-  leader-taken k v leader lowers =
-      let bounds = ascends-bounds (t .count) 0 v (outside t k) (outside-is-set k) (leader .member) in
+  first-least-taken : (k : List ℕ) (v : ℕ) → FirstLeast (totalWith t d k) (outside t k) v → totalWith t d k v < total t d k → Takes t d k v
+  first-least-taken k v first lowers =
+      let bounds = ascends-bounds (t .count) 0 v (outside t k) (outside-is-set k) (first .member) in
       record {
         site = omega arith;
-        outside = outside-lacks k v (leader .member);
+        outside = outside-lacks k v (first .member);
         lowers = lowers;
-        least = λ u above below lacks. leader .leads u (has-outside k u above below lacks) .0;
-        smallest = λ u above less lacks. leader .leads u (has-outside k u above (omega arith) lacks) .1 less;
+        least = λ u above below lacks. first .noLater u (has-outside k u above below lacks) .0;
+        smallest = λ u above less lacks. no-later-smaller (totalWith t d k) v u (first .noLater u (has-outside k u above (omega arith) lacks)) less;
       }
 
   -- a fact of the step from K, by what it does
@@ -88,7 +76,7 @@ module _ (t : Tree) (d : Demand) where
   step-cases P k resting taking =
       step-over P k (outside t k) (outside-is-set k)
       (λ none. resting record { noneLowers = λ u above below lacks. none u (has-outside k u above below lacks) })
-      (λ v leader lowers. taking v (leader-taken k v leader lowers))
+      (λ v first lowers. taking v (first-least-taken k v first lowers))
 
   -- ---- it takes one node, or it rests
 

@@ -14,7 +14,8 @@ use Rattle.laws.proofs.Lists.{has-head, has-other, range-bounds}
 use Rattle.laws.proofs.Ranges.{those-all, those-inside}
 use Rattle.model.specs.File.{Tree}
 use Rattle.model.specs.Tree.{nodes, route, atOrBelow}
-use Rattle.model.proofs.Routes.{route-server, Preorder, parent-before, route-up, by-route, route-before}
+use Rattle.model.specs.Preorder.{Preorder}
+use Rattle.model.proofs.Routes.{route-server, parent-before, route-up, by-route, route-before}
 
 module _ (t : Tree) (pre : Preorder t) where
   pub below-self : (v : ℕ) → atOrBelow t v v ≡ true

@@ -14,7 +14,8 @@ use Rattle.laws.proofs.Sums.{sum-mul, sum-none, sum-swap, sum-same, sum-those, 
 use Rattle.model.specs.File.{Tree, Demand}
 use Rattle.model.specs.Tree.{nodes, sites, route, atOrBelow, distance}
 use Rattle.model.specs.Bill.{thousandths, upTo, price, cost, total, clientLoad, linkLoad, linkTotal, serving}
-use Rattle.model.proofs.Routes.{route-server, Preorder, parent-before, route-up, by-route, distance-server, distance-up, route-before}
+use Rattle.model.specs.Preorder.{Preorder}
+use Rattle.model.proofs.Routes.{route-server, parent-before, route-up, by-route, distance-server, distance-up, route-before}
 use Rattle.model.proofs.Nearest.{serving-server, serving-up, serving-near, cost-is}
 
 module _ (t : Tree) (d : Demand) (pre : Preorder t) (k : List ℕ) (c : ℕ) where

@@ -11,7 +11,8 @@ use Rattle.laws.proofs.Lists.{has-cases, has-none}
 use Rattle.model.specs.File.{Tree, Demand}
 use Rattle.model.specs.Tree.{route, distance}
 use Rattle.model.specs.Bill.{thousandths, price, cost, serving}
-use Rattle.model.proofs.Routes.{route-server, Preorder, route-up, by-route, distance-up}
+use Rattle.model.specs.Preorder.{Preorder}
+use Rattle.model.proofs.Routes.{route-server, route-up, by-route, distance-up}
 
 -- distances grow along a route
 pub distance-grows : (t : Tree) → Preorder t → (u v : ℕ) → has (route t v) u ≡ true → distance t u ≤ distance t v

@@ -3,20 +3,21 @@ use mathlib.Core.Path.{_≡_, refl, sym, ap}
 use mathlib.Core.Bool.{Bool, true, false, _&&_, or-true, false≢true}
 use mathlib.Core.List.{List, [], _∷_}
 use mathlib.Core.Logic.{_↔_, Iff·trans, _⊎_, inl, inr, ⊎-elim, ⊎-map}
-use Prim.Native.Nat.{ℕ, zero, suc, _-_, _≤_, _<_}
+use Prim.Native.Nat.{ℕ, zero, suc, _-_, _<_}
 use native.Mathlib.Decide.{ℕ-discrete}
 use native.Mathlib.Omega.{arith}
 use lib.Dec.{ltb, eqb}
 use lib.ListN.{length}
 use borrow.Author.Tests.{ltb-true, lt-ltb, le-ltb, eqb-true, eq-eqb}
-use Rattle.laws.specs.Lists.{range, has, howMany, bit}
+use Rattle.laws.specs.Lists.{range, has, bit}
 use Rattle.laws.proofs.Statements.{rest-said}
 use Rattle.laws.proofs.Bools.{not-both, both, either, one-passes, bit-same, bit-less}
 use Rattle.laws.proofs.Lists.{has-cases, has-none, in-range}
 use Rattle.model.specs.File.{Tree, Demand}
-use Rattle.model.specs.Tree.{sites, route, atOrBelow}
+use Rattle.model.specs.Tree.{sites, atOrBelow}
 use Rattle.model.specs.Rules.{isSet}
 use Rattle.model.specs.Ties.{smallerFirst, havingFirst, members, visits, tiesBefore, ranksBefore}
+use Rattle.model.specs.Laws.{Alike, Ahead, Decides}
 use Rattle.model.proofs.Ascending.{same-members}
 
 -- ---- the smaller number first, then the rest
@@ -91,26 +92,8 @@ module _ (t : Tree) where
 
 -- ---- the order of ties said without recursion
 
--- how many nodes of K have v on their route
-abbrev pub under : Tree → List ℕ → ℕ → ℕ
-under t k v = howMany (λ u. has (route t u) v) k
-
 module _ (t : Tree) (k l : List ℕ) where
-  -- K and L have equally many nodes at or below u, and both or neither have u
-  abbrev pub Alike : ℕ → Type 0
-  Alike u = (under t k u ≡ under t l u) × (has k u ≡ has l u)
-
-  -- K has more nodes at or below v than L, or equally many and K has v and L has not
-  abbrev pub Ahead : ℕ → Type 0
-  Ahead v = (under t l v < under t k v) ⊎ ((under t k v ≡ under t l v) × (has k v ≡ true) × (has l v ≡ false))
-
-  -- of the nodes from i on and below n, v is the first at which K and L are not alike, and K is ahead there
-  pub record Decides (i n v : ℕ) : Type 0 where
-    pub site : (i ≤ v) × (v < n)
-    pub before : (u : ℕ) → i ≤ u → u < v → Alike u
-    pub here : Ahead v
-
-  visits-said : (v : ℕ) (vs : List ℕ) → visits t k l (v ∷ vs) ≡ true ↔ (Ahead v ⊎ (Alike v × (visits t k l vs ≡ true)))
+  visits-said : (v : ℕ) (vs : List ℕ) → visits t k l (v ∷ vs) ≡ true ↔ (Ahead t k l v ⊎ (Alike t k l v × (visits t k l vs ≡ true)))
   unfolding members atOrBelow
   visits-said v vs =
       rw (visits-cons t k l v vs) (
@@ -127,7 +110,7 @@ module _ (t : Tree) (k l : List ℕ) where
             (λ a. inr (sym (a .0 .0), smaller-said .1 (inr (ap bit (sym (a .0 .1)), a .1)))) h),
       )
 
-  decides-earlier : (i n v : ℕ) → Alike i → Decides (suc i) n v → Decides i n v
+  decides-earlier : (i n v : ℕ) → Alike t k l i → Decides t k l (suc i) n v → Decides t k l i n v
   decides-earlier i n v a w =
       let s = w .site in
       record {
@@ -136,13 +119,13 @@ module _ (t : Tree) (k l : List ℕ) where
         here = w .here;
       }
 
-  decides-later : (i n v : ℕ) → (i ≡ v → ⊥) → Decides i n v → Decides (suc i) n v
+  decides-later : (i n v : ℕ) → (i ≡ v → ⊥) → Decides t k l i n v → Decides t k l (suc i) n v
   decides-later i n v e w =
       let s = w .site in
       record { site = omega arith; before = λ u p q. w .before u (omega arith) q; here = w .here }
 
   -- the first node decides, or K and L are alike there and a later one does
-  decides-said : (i n : ℕ) → i < n → (Ahead i ⊎ (Alike i × ((v : ℕ) × Decides (suc i) n v))) ↔ ((v : ℕ) × Decides i n v)
+  decides-said : (i n : ℕ) → i < n → (Ahead t k l i ⊎ (Alike t k l i × ((v : ℕ) × Decides t k l (suc i) n v))) ↔ ((v : ℕ) × Decides t k l i n v)
   decides-said i n h = (
     ⊎-elim (λ a. (i, record { site = omega arith; before = λ u p q. absurd (omega arith); here = a }))
         (λ a. (a .1 .0, decides-earlier i n (a .1 .0) (a .0) (a .1 .1))),
@@ -154,7 +137,7 @@ module _ (t : Tree) (k l : List ℕ) where
         ],
   )
 
-  visits-decided : (m i n : ℕ) → m ≡ n - i → visits t k l (range i m) ≡ true ↔ ((v : ℕ) × Decides i n v)
+  visits-decided : (m i n : ℕ) → m ≡ n - i → visits t k l (range i m) ≡ true ↔ ((v : ℕ) × Decides t k l i n v)
   unfolding visits range
   visits-decided zero i n e = (λ f. absurd (false≢true f), λ a. let s = a .1 .site in absurd (omega arith))
   visits-decided (suc m) i n e =
@@ -163,7 +146,7 @@ module _ (t : Tree) (k l : List ℕ) where
 
   -- K comes before L exactly when it has fewer nodes, or as many and a node decides for it
   pub ties-said : tiesBefore t k l ≡ true
-      ↔ ((length k < length l) ⊎ ((length k ≡ length l) × ((v : ℕ) × Decides 1 (t .count) v)))
+      ↔ ((length k < length l) ⊎ ((length k ≡ length l) × ((v : ℕ) × Decides t k l 1 (t .count) v)))
   unfolding tiesBefore
   ties-said = Iff·trans smaller-said (rest-said (visits-decided (t .count - 1) 1 (t .count) refl))
 

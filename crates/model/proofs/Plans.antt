@@ -13,14 +13,9 @@ use Rattle.model.specs.Rules.{ascends, isSet}
 use Rattle.model.specs.Bill.{total}
 use Rattle.model.specs.Ties.{tiesBefore, ranksBefore}
 use Rattle.model.specs.Plan.{allSets, firstOf, plan, planTotal}
+use Rattle.model.specs.Laws.{RanksFirst}
 use Rattle.model.proofs.Order.{smaller-said, rank-irreflexive, rank-transitive, rank-total}
 use Rattle.model.proofs.Sets.{all-sets}
-
--- K is a set of at most b nodes, and ranks before every other one
-pub record RanksFirst (t : Tree) (d : Demand) (b : ℕ) (k : List ℕ) : Type 0 where
-  pub isASet : isSet t k ≡ true
-  pub within : length k ≤ b
-  pub first : (l : List ℕ) → isSet t l ≡ true → length l ≤ b → (l ≡ k → ⊥) → ranksBefore t d k l ≡ true
 
 module _ (t : Tree) (d : Demand) where
   -- K is L or ranks before it

@@ -18,8 +18,9 @@ use Rattle.model.specs.Plan.{plan, planTotal, row}
 use Rattle.model.specs.Greedy.{greedyTotal}
 use Rattle.model.specs.Calls.{after, budgets, planTotals, planRows, planBuffersLong, greedyTotals, greedyBuffersLong}
 use Rattle.model.specs.Report.{HoldsOptimum, setOfRow, DemandThree, reportVerdict}
+use Rattle.model.specs.Accepted.{Sound}
 use Rattle.model.proofs.Verdicts.{ask-passed, then-passed, is-passed}
-use Rattle.model.proofs.Accepted.{Sound, accepted-sound}
+use Rattle.model.proofs.Accepted.{accepted-sound}
 use Rattle.model.proofs.Ascending.{ascends-cons}
 use Rattle.model.proofs.GreedyRuns.{greedy-no-less}
 use Rattle.model.proofs.Loads.{links-total}

@@ -9,6 +9,7 @@ use Rattle.laws.proofs.Bools.{by-test}
 use Rattle.laws.proofs.Lists.{has-cases, has-none, has-head, has-tail}
 use Rattle.model.specs.File.{Tree}
 use Rattle.model.specs.Tree.{climb, route, distance}
+use Rattle.model.specs.Preorder.{PreorderTo, Preorder}
 
 module _ (t : Tree) where
   pub route-server : route t 0 ≡ 0 ∷ []
@@ -30,10 +31,7 @@ module _ (t : Tree) where
   unfolding route
   route-ends v = climb-ends v v
 
-  -- ---- where rule 7 holds of the nodes below n
-
-  abbrev pub PreorderTo : ℕ → Type 0
-  PreorderTo n = (i : ℕ) → suc i < n → has (route t i) (t .parent (suc i)) ≡ true
+  -- ---- where the nodes below n stand in preorder
 
   -- the nodes on a route are not after its first
   climb-le : (k v u : ℕ) → ((x : ℕ) → x < v → t .parent (suc x) ≤ x) → has (climb (t .parent) k v) u ≡ true → u ≤ v
@@ -46,13 +44,13 @@ module _ (t : Tree) where
       (λ e. omega (arith, climb-le k (t .parent (suc v)) u (λ x h. f x (omega arith)) e))
 
   -- a parent stands before its node
-  pub parent-before-to : (n : ℕ) → PreorderTo n → (i : ℕ) → suc i < n → t .parent (suc i) ≤ i
+  pub parent-before-to : (n : ℕ) → PreorderTo t n → (i : ℕ) → suc i < n → t .parent (suc i) ≤ i
   unfolding route
   parent-before-to zero pre i h = absurd (omega arith)
   parent-before-to (suc n) pre i h =
       climb-le i i (t .parent (suc i)) (λ x l. parent-before-to n (λ j k. pre j (omega arith)) x (omega arith)) (pre i h)
 
-  module _ (n : ℕ) (pre : PreorderTo n) where
+  module _ (n : ℕ) (pre : PreorderTo t n) where
     -- more links than needed change nothing
     climb-same : (k j v : ℕ) → v < n → v ≤ k → v ≤ j → climb (t .parent) k v ≡ climb (t .parent) j v
     unfolding climb
@@ -72,12 +70,9 @@ module _ (t : Tree) where
         let p = parent-before-to n pre i h in
         ap (λ r. suc i ∷ r) (climb-same i (t .parent (suc i)) (t .parent (suc i)) (omega arith) p (omega arith))
 
-  -- ---- where it holds of every node
+  -- ---- where all do
 
-  abbrev pub Preorder : Type 0
-  Preorder = (i : ℕ) → has (route t i) (t .parent (suc i)) ≡ true
-
-  module _ (pre : Preorder) where
+  module _ (pre : Preorder t) where
     pub parent-before : (i : ℕ) → t .parent (suc i) ≤ i
     parent-before i = parent-before-to (suc (suc i)) (λ j _. pre j) i (omega arith)
 

@@ -9,3 +9,7 @@ pub mod Calls
 pub mod Report
 pub mod Hosts
 pub mod Cases
+pub mod Preorder
+pub mod Accepted
+pub mod Children
+pub mod Laws

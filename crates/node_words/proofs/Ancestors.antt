@@ -6,7 +6,8 @@ use native.Mathlib.Decide.{decLt}
 use native.Mathlib.Omega.{arith}
 use Rattle.model.specs.File.{Tree}
 use Rattle.model.specs.Tree.{depth, distance}
-use Rattle.model.proofs.Routes.{route-server, Preorder, parent-before, route-up, by-route, distance-up}
+use Rattle.model.specs.Preorder.{Preorder}
+use Rattle.model.proofs.Routes.{route-server, parent-before, route-up, by-route, distance-up}
 use Rattle.model.proofs.Depths.{depth-server, depth-up}
 use Rattle.node_words.specs.Ancestors.{ancestorAt}
 

@@ -9,10 +9,12 @@ use lib.Seq.{getD-set-same, getD-set-other}
 use Rattle.laws.specs.Fronts.{FrontOnly}
 use Rattle.laws.proofs.Fronts.{same-front-entry}
 use Rattle.model.specs.File.{Tree, treeOf, demandOf}
+use Rattle.model.specs.Accepted.{Sound}
 use Rattle.model.proofs.Routes.{parent-before}
-use Rattle.model.proofs.Accepted.{accepted-header, Sound, accepted-sound}
+use Rattle.model.proofs.Accepted.{accepted-header, accepted-sound}
 use Rattle.fields.specs.Table.{InFile}
-use Rattle.best_rows.proofs.TreeRows.{NoneOrChild, first-child-stands, next-sibling-stands}
+use Rattle.best_rows.specs.TreeRows.{NoneOrChild}
+use Rattle.best_rows.proofs.TreeRows.{first-child-stands, next-sibling-stands}
 use Rattle.node_words.specs.Words.{wordAt, distanceWord, depthWord, childWord, siblingWord, wordOf, HasNode, NodeRoom, SiteRoom, NodeWords, withPair, Noted}
 
 -- ---- one store

@@ -17,7 +17,7 @@ use Rattle.laws.proofs.FrontValues.{entry-of-range-alone}
 use Rattle.model.specs.File.{Tree, Demand, treeOf, demandOf, budgetOf}
 use Rattle.model.specs.Plan.{plan, planTotal, row}
 use Rattle.model.specs.Calls.{planTotals, planRows}
-use Rattle.model.proofs.Accepted.{Sound}
+use Rattle.model.specs.Accepted.{Sound}
 use Rattle.model.proofs.Bounds.{total-bound}
 use Rattle.model.proofs.Written.{length-plan-row}
 use Rattle.fields.specs.declared.Tree as code

@@ -9,8 +9,8 @@ use native.Mathlib.Omega.{arith}
 use lib.ListN.{length, set, length-set}
 use lib.Seq.{sets}
 use Rattle.model.specs.File.{treeOf, demandOf, countOf, budgetOf, mostNodes}
-use Rattle.model.proofs.Accepted.{Sound}
 use Rattle.fields.specs.declared.Tree as code
+use Rattle.model.specs.Accepted.{Sound}
 use Rattle.best_rows.specs.Rows.{rowSize}
 use Rattle.best_rows.specs.Best.{cap}
 use Rattle.best_rows.specs.TreeRows.{firstChild, nextSibling, rowAt}

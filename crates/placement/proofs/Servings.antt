@@ -18,8 +18,9 @@ use Rattle.model.specs.File.{Tree, treeOf, demandOf, mostNodes}
 use Rattle.model.specs.Rules.{isSet}
 use Rattle.model.specs.Bill.{serving}
 use Rattle.model.specs.Calls.{servingNodes}
-use Rattle.model.proofs.Routes.{Preorder, parent-before, by-route}
-use Rattle.model.proofs.Accepted.{Sound}
+use Rattle.model.specs.Preorder.{Preorder}
+use Rattle.model.specs.Accepted.{Sound}
+use Rattle.model.proofs.Routes.{parent-before, by-route}
 use Rattle.model.proofs.Intervals.{parent-earlier}
 use Rattle.model.proofs.Nearest.{serving-server, serving-up}
 use Rattle.placement.specs.Passes.{Billable, Serving}

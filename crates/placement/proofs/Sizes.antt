@@ -12,8 +12,8 @@ use Rattle.laws.proofs.Ranges.{sum-those-le}
 use Rattle.model.specs.File.{Tree, Demand}
 use Rattle.model.specs.Tree.{route, atOrBelow}
 use Rattle.model.specs.Bill.{thousandths, upTo, clientLoad, linkLoad}
-use Rattle.model.proofs.Accepted.{Sound}
-use Rattle.model.proofs.Children.{relieved, childOf}
+use Rattle.model.specs.Accepted.{Sound}
+use Rattle.model.specs.Children.{relieved, childOf}
 use Rattle.placement.specs.Walks.{mostSent, mostLoad, mostOfRow, Walked, NodeWalked, RowWalked}
 
 module _ (t : Tree) (d : Demand) (ok : Sound t d) where

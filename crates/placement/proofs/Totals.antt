@@ -13,7 +13,7 @@ use Rattle.laws.proofs.Ranges.{sum-next, entry-stored}
 use Rattle.model.specs.File.{Tree, Demand}
 use Rattle.model.specs.Tree.{nodes, sites}
 use Rattle.model.specs.Bill.{total, linkLoad, linkTotal}
-use Rattle.model.proofs.Accepted.{Sound}
+use Rattle.model.specs.Accepted.{Sound}
 use Rattle.model.proofs.Loads.{links-total}
 use Rattle.placement.specs.Passes.{totalBefore}
 

@@ -15,9 +15,11 @@ use Rattle.laws.proofs.Ranges.{range-cut, range-first, range-none, those-append
 use Rattle.model.specs.File.{Tree, Demand}
 use Rattle.model.specs.Tree.{nodes, atOrBelow}
 use Rattle.model.specs.Bill.{thousandths, linkLoad}
-use Rattle.model.proofs.Routes.{Preorder, route-ends}
+use Rattle.model.specs.Preorder.{Preorder}
+use Rattle.model.specs.Children.{relieved, childOf}
+use Rattle.model.proofs.Routes.{route-ends}
 use Rattle.model.proofs.Intervals.{below-self, before-not-below, below-after, below-parent, below-trans, end-parent, subtree-is-range}
-use Rattle.model.proofs.Children.{relieved, childOf, children-in-subtree, load-above-member, load-above-other}
+use Rattle.model.proofs.Children.{children-in-subtree, load-above-member, load-above-other}
 use Rattle.placement.specs.Walks.{Begins, Ends, Walked, NodeWalked, RowWalked}
 
 module _ (t : Tree) (pre : Preorder t) where

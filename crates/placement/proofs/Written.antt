@@ -12,8 +12,8 @@ use Rattle.laws.proofs.Ranges.{entry-stored}
 use Rattle.model.specs.File.{Tree, Demand, treeOf, demandOf}
 use Rattle.model.specs.Bill.{serving, total, totalLimit}
 use Rattle.model.specs.Calls.{servingNodes, linkLoads}
+use Rattle.model.specs.Accepted.{Sound}
 use Rattle.model.proofs.Ascending.{ascends-range, ascends-those, same-members}
-use Rattle.model.proofs.Accepted.{Sound}
 use Rattle.model.proofs.Bounds.{total-bound}
 use Rattle.placement.specs.Passes.{selfServing, totalBefore, Billable, Walkable}
 use Rattle.placement.specs.Walks.{RowWalked}

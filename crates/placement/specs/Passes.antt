@@ -10,7 +10,7 @@ use Rattle.laws.specs.Lists.{range, sum, howMany, those}
 use Rattle.model.specs.File.{Tree, treeOf, demandOf, countOf, recordAt}
 use Rattle.model.specs.Rules.{isSet}
 use Rattle.model.specs.Bill.{serving}
-use Rattle.model.proofs.Accepted.{Sound}
+use Rattle.model.specs.Accepted.{Sound}
 
 -- what an accepted file of n nodes allows
 pub record AcceptedFile (file : List ℕ) (n : ℕ) : Type 0 where

@@ -8,7 +8,7 @@ use Rattle.laws.specs.Lists.{range, sum, those}
 use Rattle.model.specs.File.{Tree, Demand, mostNodes, mostFlow}
 use Rattle.model.specs.Tree.{atOrBelow}
 use Rattle.model.specs.Bill.{thousandths, linkLoad}
-use Rattle.model.proofs.Children.{relieved, childOf}
+use Rattle.model.specs.Children.{relieved, childOf}
 
 -- what a client can send over a link, what a link can carry, and what the loads of a row can add up to
 abbrev pub mostSent : ℕ

@@ -14,7 +14,7 @@ use Rattle.laws.proofs.Stores.{sets-part}
 use Rattle.laws.proofs.FrontValues.{same-on-range}
 use Rattle.model.specs.File.{Tree, Demand, mostNodes}
 use Rattle.model.specs.Bill.{price}
-use Rattle.model.proofs.Accepted.{Sound}
+use Rattle.model.specs.Accepted.{Sound}
 use Rattle.best_rows.specs.Rows.{rowSize}
 use Rattle.best_rows.specs.Best.{cell, best}
 use Rattle.best_rows.specs.TreeRows.{firstChild, nextSibling, rowAt}

@@ -7,7 +7,7 @@ use native.Mathlib.Omega.{arith}
 use Rattle.model.specs.File.{Tree, Demand, treeOf, demandOf, mostLength, mostDepth, mostFlow}
 use Rattle.model.specs.Tree.{distance}
 use Rattle.model.specs.Bill.{thousandths, price}
-use Rattle.model.proofs.Accepted.{Sound}
+use Rattle.model.specs.Accepted.{Sound}
 use Rattle.model.proofs.Bounds.{distance-bound, price-bound}
 use Rattle.best_rows.specs.Best.{cap}
 use Rattle.node_words.specs.Words.{wordOf, distanceWord}

@@ -7,7 +7,8 @@ use lib.ListN.{length, take}
 use Rattle.model.specs.File.{treeOf, demandOf, countOf}
 use Rattle.model.specs.Tree.{depth, height, distance}
 use Rattle.model.specs.Rules.{scratchWords}
-use Rattle.model.proofs.Accepted.{Sound, accepted-header, accepted-sound}
+use Rattle.model.specs.Accepted.{Sound}
+use Rattle.model.proofs.Accepted.{accepted-header, accepted-sound}
 use Rattle.model.proofs.Bounds.{height-bound}
 use Rattle.model.proofs.Depths.{depth-within-height}
 use Rattle.fields.specs.declared.Tree as code

@@ -11,8 +11,8 @@ use Rattle.laws.specs.Lists.{has}
 use Rattle.model.specs.File.{Tree, treeOf, demandOf, lengthField}
 use Rattle.model.specs.Tree.{route}
 use Rattle.model.specs.Rules.{passed, broken, _then_, parentHolds, lengthHolds, recordVerdict, recordsVerdict}
+use Rattle.model.specs.Preorder.{PreorderTo}
 use Rattle.model.proofs.Accepted.{record-holds}
-use Rattle.model.proofs.Routes.{PreorderTo}
 use Rattle.tree_file.specs.Checks.{NextRecord, Climbable, RecordsThere}
 
 -- ---- rules 7 and 9 at the server and at the other nodes

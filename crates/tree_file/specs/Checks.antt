@@ -7,7 +7,7 @@ use Rattle.model.specs.File.{Tree, mostNodes, countOf, budgetOf, recordAt, tree
 use Rattle.model.specs.Tree.{depth, height}
 use Rattle.model.specs.Rules.{Verdict, passed, broken}
 use Rattle.model.specs.Calls.{Answer, answered, refused}
-use Rattle.model.proofs.Routes.{PreorderTo}
+use Rattle.model.specs.Preorder.{PreorderTo}
 use Rattle.fields.specs.Table.{InFile}
 use Rattle.fields.specs.declared.Tree as code
 use Rattle.tree_file.specs.declared.Ruling.{Ruling}

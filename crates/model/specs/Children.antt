@@ -1,0 +1,14 @@
+-- The load above a node is told by its children and by relieved flows: both words.
+use mathlib.Core.Bool.{Bool}
+use Prim.Native.Nat.{ℕ, _*_, _-_}
+use lib.Dec.{eqb}
+use Rattle.model.specs.File.{Tree, Demand}
+use Rattle.model.specs.Bill.{thousandths}
+
+-- is u a child of v?
+abbrev pub childOf : Tree → ℕ → ℕ → Bool
+childOf t v u = eqb (t .parent u) v
+
+-- what the client at c sends over a link once a cache has served it: f × (1,000 − p)
+abbrev pub relieved : Demand → ℕ → ℕ
+relieved d c = d .flow c * (thousandths - d .hit c)

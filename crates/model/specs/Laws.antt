@@ -1,0 +1,128 @@
+-- The nine laws of the definitions, a to i, on one page. They are proved for every accepted file: `lawful` in proofs/Laws.
+-- After them the words in which two more laws are told: of the decimal text, and of the codes that hosts read.
+use mathlib.Core.Path.{_≡_}
+use mathlib.Core.Bool.{Bool, true, false, _&&_, _||_}
+use mathlib.Core.List.{List, [], _∷_, List·Memᴰ}
+use mathlib.Core.Logic.{_↔_, _⊎_}
+use Prim.Native.Nat.{ℕ, _+_, _*_, _-_, _≤_, _<_}
+use lib.Dec.{ltb, eqb}
+use lib.ListN.{length, take, getD}
+use Rattle.laws.specs.Lists.{has, howMany}
+use Rattle.model.specs.File.{Tree, Demand}
+use Rattle.model.specs.Tree.{route, distance}
+use Rattle.model.specs.Rules.{Verdict, broken, isSet}
+use Rattle.model.specs.Bill.{totalLimit, price, cost, total, linkTotal, serving}
+use Rattle.model.specs.Ties.{tiesBefore, ranksBefore}
+use Rattle.model.specs.Plan.{allSets, plan, planTotal}
+use Rattle.model.specs.Greedy.{withNode, withNodes, greedyNodes, greedySet, greedyTotal}
+use Rattle.model.specs.Report.{digit}
+use Rattle.model.specs.Hosts.{codeUnit}
+
+-- ---- for law e: the first of all sets of at most b nodes
+
+-- K is a set of at most b nodes, and ranks before every other one
+pub record RanksFirst (t : Tree) (d : Demand) (b : ℕ) (k : List ℕ) : Type 0 where
+  pub isASet : isSet t k ≡ true
+  pub within : length k ≤ b
+  pub first : (l : List ℕ) → isSet t l ≡ true → length l ≤ b → (l ≡ k → ⊥) → ranksBefore t d k l ≡ true
+
+-- ---- for law h: the order of ties, said without recursion
+
+-- how many nodes of K have v on their route
+abbrev pub under : Tree → List ℕ → ℕ → ℕ
+under t k v = howMany (λ u. has (route t u) v) k
+
+module _ (t : Tree) (k l : List ℕ) where
+  -- K and L have equally many nodes at or below u, and both or neither have u
+  abbrev pub Alike : ℕ → Type 0
+  Alike u = (under t k u ≡ under t l u) × (has k u ≡ has l u)
+
+  -- K has more nodes at or below v than L, or equally many and K has v and L has not
+  abbrev pub Ahead : ℕ → Type 0
+  Ahead v = (under t l v < under t k v) ⊎ ((under t k v ≡ under t l v) × (has k v ≡ true) × (has l v ≡ false))
+
+  -- of the nodes from i on and below n, v is the first at which K and L are not alike, and K is ahead there
+  pub record Decides (i n v : ℕ) : Type 0 where
+    pub site : (i ≤ v) × (v < n)
+    pub before : (u : ℕ) → i ≤ u → u < v → Alike u
+    pub here : Ahead v
+
+-- ---- for law i: the greedy rule, said without recursion
+
+-- v is the node that the greedy rule takes from K
+pub record Takes (t : Tree) (d : Demand) (k : List ℕ) (v : ℕ) : Type 0 where
+  pub site : (1 ≤ v) × (v < t .count)
+  pub outside : has k v ≡ false
+  pub lowers : total t d (withNode v k) < total t d k
+  -- no other node outside K undercuts it
+  pub least : (u : ℕ) → 1 ≤ u → u < t .count → has k u ≡ false → total t d (withNode v k) ≤ total t d (withNode u k)
+  -- every smaller-numbered one exceeds it
+  pub smallest : (u : ℕ) → 1 ≤ u → u < v → has k u ≡ false → total t d (withNode v k) < total t d (withNode u k)
+
+-- no node outside K lowers the total
+pub record Rests (t : Tree) (d : Demand) (k : List ℕ) : Type 0 where
+  pub noneLowers : (u : ℕ) → 1 ≤ u → u < t .count → has k u ≡ false → total t d k ≤ total t d (withNode u k)
+
+-- g are the nodes that the greedy rule takes from K in at most b steps, in the order taken
+pub record RunFrom (t : Tree) (d : Demand) (k : List ℕ) (b : ℕ) (g : List ℕ) : Type 0 where
+  pub within : length g ≤ b
+  pub steps : (j : ℕ) → j < length g → Takes t d (withNodes k (take j g)) (getD g j 0)
+  -- fewer than b only where no node outside lowers the total
+  pub stop : length g < b → Rests t d (withNodes k g)
+
+-- those that it takes from the empty set
+abbrev pub GreedyRun : Tree → Demand → ℕ → List ℕ → Type 0
+GreedyRun t d b g = RunFrom t d [] b g
+
+-- ---- the laws
+
+pub record Lawful (t : Tree) (d : Demand) : Type 0 where
+  -- a. Distances grow along a route, so the least price over the route is the price at the serving node.
+  pub distancesGrow : (u v : ℕ) → has (route t v) u ≡ true → distance t u ≤ distance t v
+  pub leastAtServing : (k : List ℕ) (c : ℕ) → cost t d k c ≡ price t d c (serving t k c)
+  -- b. Over the links above nodes 1 to n − 1, loads times lengths add up to the total.
+  pub loadsAddUp : (k : List ℕ) → linkTotal t d k ≡ total t d k
+  -- c. The enumeration holds exactly the sets of at most b nodes.
+  pub allSetsExact : (b : ℕ) (k : List ℕ) → List·Memᴰ k (allSets t b) ↔ ((isSet t k ≡ true) × (length k ≤ b))
+  -- d. Rank is a strict total order on sets.
+  pub rankIrreflexive : (k : List ℕ) → ranksBefore t d k k ≡ false
+  pub rankTransitive : (k l m : List ℕ) → ranksBefore t d k l ≡ true → ranksBefore t d l m ≡ true → ranksBefore t d k m ≡ true
+  pub rankTotal : (k l : List ℕ) → isSet t k ≡ true → isSet t l ≡ true → (k ≡ l → ⊥)
+      → (ranksBefore t d k l ≡ true) ⊎ (ranksBefore t d l k ≡ true)
+  -- e. The plan at b is a set of at most b nodes that ranks before every other, and is the only one that does.
+  pub planFirst : (b : ℕ) → RanksFirst t d b (plan t d b)
+  pub planOnly : (b : ℕ) (k : List ℕ) → RanksFirst t d b k → k ≡ plan t d b
+  -- f. Every total is below 2^62.
+  pub totalsSmall : (k : List ℕ) → total t d k < totalLimit
+  -- g. Greedy's total after at most b steps is the total of a set of at most b nodes, those taken, so it is never below the
+  -- plan's.
+  pub greedyTotalIs : (b : ℕ) → greedyTotal t d b ≡ total t d (greedySet t d b)
+  pub greedySetHas : (b u : ℕ) → has (greedySet t d b) u ≡ has (greedyNodes t d b) u
+  pub greedyIsSet : (b : ℕ) → isSet t (greedySet t d b) ≡ true
+  pub greedyWithin : (b : ℕ) → length (greedySet t d b) ≤ b
+  pub greedyNoLess : (b : ℕ) → planTotal t d b ≤ greedyTotal t d b
+  -- h. The order of ties, said without recursion.
+  pub tiesSaid : (k l : List ℕ) → tiesBefore t k l ≡ true
+      ↔ ((length k < length l) ⊎ ((length k ≡ length l) × ((v : ℕ) × Decides t k l 1 (t .count) v)))
+  -- i. The greedy rule, said without recursion; only its nodes fit, and fewer steps take the first of them. A set with one
+  -- node more has that node and its own.
+  pub withNodeHas : (v u : ℕ) (k : List ℕ) → has (withNode v k) u ≡ (eqb v u || has k u)
+  pub greedySaid : (b : ℕ) → GreedyRun t d b (greedyNodes t d b)
+  pub greedyPrefix : (b j : ℕ) → j ≤ b → take j (greedyNodes t d b) ≡ greedyNodes t d j
+  pub greedyOnly : (b : ℕ) (g : List ℕ) → GreedyRun t d b g → g ≡ greedyNodes t d b
+
+-- ---- for `decimal-reads`: the digits that are printed read back as the number
+
+-- the number that a text of digits stands for, after a number x already read
+unfoldable pub readAfter : ℕ → List ℕ → ℕ
+readAfter x [] = x
+readAfter x (c ∷ cs) = readAfter (10 * x + (c - digit 0)) cs
+
+-- ---- for `bill-numbered` and its kin: a host reads the number of a broken rule from the code's last byte
+
+-- q fits one byte, and is not 0
+abbrev pub isByte : ℕ → Bool
+isByte q = ltb 0 q && ltb q codeUnit
+
+pub record Numbered (v : Verdict) : Type 0 where
+  pub byte : (q i : ℕ) → v ≡ broken q i → isByte q ≡ true
