@@ -61,7 +61,7 @@ module _ {C : Type 0} (w : ℕ → Bool → ℕ) (p : Bool) (s : ℕ → Site C)
 
   -- ---- no choice y of count m costs less, and of those that cost as little none comes before the one taken
 
-  abbrev pub TakesFirst : (r : Row) → C → ℕ → Choice r → Type 1
+  abbrev TakesFirst : (r : Row) → C → ℕ → Choice r → Type 1
   TakesFirst r c m y =
       (best w p s r c m ≤ rowCost s r c y)
       × (best w p s r c m ≡ rowCost s r c y → (rest : Type 0) → rest → Before w p r (choose w p s r c m) y rest)

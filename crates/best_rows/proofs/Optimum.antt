@@ -24,13 +24,13 @@ unfolding firstChild
 row-at-server t = let all : nodesAfter t 0 ≡ t .count - 1 = omega arith in rw all (row-at-first t (t .count - 1) 0 0 (omega arith))
 
 module _ (t : Tree) (d : Demand) (ok : Sound t d) (b : ℕ) where
-  pub best-nodes-are-plan : bestNodes t d (firstChild t 0) 0 (leastCount t d b) ≡ plan t d b
+  best-nodes-are-plan : bestNodes t d (firstChild t 0) 0 (leastCount t d b) ≡ plan t d b
   unfolding bestNodes bestAt leastCount
   best-nodes-are-plan =
       ap (λ r. chosen r (chooseWithin one prefer (site t d) r 0 b)) (row-at-server t)
       ∙ only-plan t d b (takenNodes t d b) (taken-ranks-first t d ok b)
 
-  pub best-at-is-plan-total : bestAt t d (firstChild t 0) 0 (leastCount t d b) ≡ planTotal t d b
+  best-at-is-plan-total : bestAt t d (firstChild t 0) 0 (leastCount t d b) ≡ planTotal t d b
   unfolding bestAt leastCount
   best-at-is-plan-total =
       ap (λ r. let f = best one prefer (site t d) r 0 in f (firstLeast f b)) (row-at-server t)

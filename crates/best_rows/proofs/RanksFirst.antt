@@ -29,14 +29,14 @@ use Rattle.best_rows.proofs.Chosen.{length-chosen, chosen-is-set, choic
 
 module _ (t : Tree) (d : Demand) (b : ℕ) where
   -- the choice taken on the server's row, and its members
-  abbrev pub taken : Choice (serverRow t)
+  abbrev taken : Choice (serverRow t)
   taken = chooseWithin one prefer (site t d) (serverRow t) 0 b
 
   abbrev pub takenNodes : List ℕ
   takenNodes = chosen (serverRow t) taken
 
   -- the least found there
-  abbrev pub leastFound : ℕ
+  abbrev leastFound : ℕ
   leastFound = let f = best one prefer (site t d) (serverRow t) 0 in f (firstLeast f b)
 
 module _ (t : Tree) (d : Demand) (ok : Sound t d) where

@@ -41,7 +41,7 @@ accepted-header s e =
 -- ---- the records
 
 -- every record has its yes
-pub each-record : (t : Tree) (d : Demand) (n i : ℕ) → recordsVerdict t d n ≡ passed → i < n → recordVerdict t d i ≡ passed
+each-record : (t : Tree) (d : Demand) (n i : ℕ) → recordsVerdict t d n ≡ passed → i < n → recordVerdict t d i ≡ passed
 unfolding recordsVerdict
 each-record t d zero i e h = absurd (omega arith)
 each-record t d (suc n) i e h =

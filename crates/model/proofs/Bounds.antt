@@ -31,7 +31,7 @@ module _ (t : Tree) (d : Demand) (ok : Sound t d) where
   unfolding height
   height-bound = greatest-within (depth t) mostDepth (nodes t) (ok .shallow)
 
-  abbrev pub mostCost : ℕ
+  abbrev mostCost : ℕ
   mostCost = mostFlow * (thousandths * (mostLength * mostDepth))
 
   pub price-bound : (c v : ℕ) → price t d c v ≤ mostCost

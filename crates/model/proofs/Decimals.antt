@@ -46,7 +46,7 @@ decimal-more x h =
 pub decimal-longer : (x : ℕ) → 10 ≤ x → length (decimal x) ≡ length (decimal (x / 10)) + 1
 decimal-longer x h = rw (decimal-more x h, length-append)
 
-pub decimal-short : (m x : ℕ) → x < 10 ^ suc m → length (decimal x) ≤ suc m
+decimal-short : (m x : ℕ) → x < 10 ^ suc m → length (decimal x) ≤ suc m
 decimal-short zero x h = rw (decimal-one x (omega arith)) (omega arith)
 decimal-short (suc m) x h =
     elim (decLt x 10) [

@@ -24,12 +24,12 @@ module _ (t : Tree) (d : Demand) where
   unfolding takenFrom
   taken-cases P k b = step-cases t d (λ s. P (elim s as (λ _. List ℕ) [ stops ↦ [] | takes v ↦ v ∷ takenFrom t d (withNode v k) b ])) k
 
-  pub taken-none : (k : List ℕ) (b : ℕ) → Rests t d k → takenFrom t d k b ≡ []
+  taken-none : (k : List ℕ) (b : ℕ) → Rests t d k → takenFrom t d k b ≡ []
   unfolding takenFrom
   taken-none k zero p = refl
   taken-none k (suc b) p = taken-cases (λ g. g ≡ []) k b (λ _. refl) (λ v q. absurd (takes-not-rests t d q p))
 
-  pub taken-cons : (k : List ℕ) (v b : ℕ) → Takes t d k v → takenFrom t d k (suc b) ≡ v ∷ takenFrom t d (withNode v k) b
+  taken-cons : (k : List ℕ) (v b : ℕ) → Takes t d k v → takenFrom t d k (suc b) ≡ v ∷ takenFrom t d (withNode v k) b
   taken-cons k v b p =
       taken-cases (λ g. g ≡ v ∷ takenFrom t d (withNode v k) b) k b (λ q. absurd (takes-not-rests t d p q)) (λ w q. rw (only-takes t d q p))
 

@@ -76,7 +76,7 @@ module _ (t : Tree) (pre : Preorder t) where
   -- ---- the run of nodes
 
   -- the next node is at or below v too unless its parent comes before v
-  pub below-next : (v c : ℕ) → v ≤ c → atOrBelow t v (suc c) ≡ (atOrBelow t v c && leb v (t .parent (suc c)))
+  below-next : (v c : ℕ) → v ≤ c → atOrBelow t v (suc c) ≡ (atOrBelow t v c && leb v (t .parent (suc c)))
   unfolding atOrBelow
   below-next v c h = below-parent v (suc c) (omega arith) ∙ rest-of-route (t .parent (suc c)) v c (pre c)
 

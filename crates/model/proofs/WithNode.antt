@@ -33,7 +33,7 @@ has-with-node v u (x ∷ xs) =
     by-test (λ b. has (cond b (v ∷ x ∷ xs) (x ∷ withNode v xs)) u ≡ (eqb v u || (eqb x u || has xs u))) (ltb v x) (λ _. refl)
     (λ _. rw (has-with-node v u xs, ← or-assoc (eqb x u), or-comm (eqb x u) (eqb v u), or-assoc))
 
-pub length-with-node : (v : ℕ) (k : List ℕ) → length (withNode v k) ≡ suc (length k)
+length-with-node : (v : ℕ) (k : List ℕ) → length (withNode v k) ≡ suc (length k)
 unfolding withNode
 length-with-node v [] = refl
 length-with-node v (u ∷ us) =

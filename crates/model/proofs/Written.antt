@@ -39,7 +39,7 @@ written-there written old e = simp length-append (omega arith)
 
 -- ---- what each call writes
 
-pub length-row : (k : ℕ) (vs : List ℕ) → length vs ≤ k → length (row k vs) ≡ k
+length-row : (k : ℕ) (vs : List ℕ) → length vs ≤ k → length (row k vs) ≡ k
 length-row k vs h = simp (length-append, length-replicate) (omega arith)
 
 module _ (file : List ℕ) where

@@ -126,7 +126,7 @@ isSmall s = leb (countOf s) programNodes && leb (height (treeOf s)) programHeigh
 unfoldable pub programVerdict : List ℕ → Verdict
 programVerdict s = askProgram (ltb (length s) firstLook) then fileVerdict s then askProgram (isSmall s)
 
-abbrev pub textOf : Verdict → List ℕ → List ℕ
+abbrev textOf : Verdict → List ℕ → List ℕ
 textOf passed s = reportText s
 textOf (broken q i) s = refusalText q i
 
