@@ -5,7 +5,7 @@ use Prim.Native.Nat.{ℕ, zero, suc, _*_, _-_, _^_}
 use lib.Dec.{eqb}
 use Rattle.laws.specs.Lists.{sum, least, has, anyOf, those, firstThat}
 use Rattle.model.specs.File.{Tree, Demand}
-use Rattle.model.specs.Tree.{nodes, sites, route, atOrBelow, distance}
+use Rattle.model.specs.Tree.{server, nodes, sites, route, atOrBelow, distance}
 
 -- hits, loads and totals count in thousandths: the 1,000 of the formulas
 abbrev pub thousandths : ℕ
@@ -21,20 +21,21 @@ upTo v [] = []
 upTo v (u ∷ us) = let r = upTo v us in u ∷ cond (eqb u v) [] r
 
 module _ (t : Tree) (d : Demand) where
-  -- f × (1,000 × d(c) − p × d(v)): what the client at c would cost if v served it
+  -- f × (1,000 × d(c) − p × d(v)): what the client at c would cost if v served it. For v on the route of c and an accepted
+  -- file no difference is cut off at 0: law `nothing-cut-off`.
   unfoldable pub price : ℕ → ℕ → ℕ
   price c v = d .flow c * (thousandths * distance t c - d .hit c * distance t v)
 
   -- the least over its route: the server, and each member of K
   unfoldable pub cost : List ℕ → ℕ → ℕ
-  cost k c = least (price c) 0 (those (has k) (route t c))
+  cost k c = least (price c) server (those (has k) (route t c))
 
   -- "The total of K is the sum over all nodes"
   unfoldable pub total : List ℕ → ℕ
   total k = sum (cost k) (nodes t)
 
   -- what the client at c puts on the link above v, at or below which it is: f × (1,000 − p) "if K has a node from c up to
-  -- v inclusive", else f × 1,000
+  -- v inclusive", else f × 1,000. On an accepted file no difference is cut off at 0: law `nothing-cut-off`.
   unfoldable pub clientLoad : List ℕ → ℕ → ℕ → ℕ
   clientLoad k v c = d .flow c * cond (anyOf (has k) (upTo v (route t c))) (thousandths - d .hit c) thousandths
 
@@ -49,4 +50,4 @@ module _ (t : Tree) (d : Demand) where
 
 -- the serving node: "the first member of K met going up from the node, itself included, else 0"
 unfoldable pub serving : Tree → List ℕ → ℕ → ℕ
-serving t k v = firstThat (has k) 0 (route t v)
+serving t k v = firstThat (has k) server (route t v)

@@ -1,10 +1,14 @@
--- Document 01, "Tree file" and "Distances and the bill": routes, depths and distances in a tree. Node 0 is the server.
+-- Document 01, "Tree file" and "Distances and the bill": routes, depths and distances in a tree.
 use mathlib.Core.Bool.{Bool}
 use mathlib.Core.List.{List, [], _∷_}
 use Prim.Native.Nat.{ℕ, zero, suc, _-_}
 use lib.ListN.{length}
 use Rattle.laws.specs.Lists.{range, sum, greatest, has}
 use Rattle.model.specs.File.{Tree}
+
+-- "Node 0 is the server"
+abbrev pub server : ℕ
+server = 0
 
 -- from v up to the server, in at most k links
 unfoldable pub climb : (ℕ → ℕ) → ℕ → ℕ → List ℕ
