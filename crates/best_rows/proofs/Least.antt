@@ -1,4 +1,5 @@
--- Laws of the first of the least: it is less than every other or as small and no later, and a loop that keeps the least has it.
+-- Laws of the smallest index with the least value: every other value is larger, or as large at a later index; and a loop's
+-- running minimum is the value there.
 use mathlib.Core.Path.{_≡_, refl, ap}
 use mathlib.Core.Bool.{cond}
 use Prim.Native.Nat.{ℕ, zero, suc, _≤_, _<_, min}
@@ -7,7 +8,7 @@ use native.Mathlib.Omega.{arith}
 use lib.Dec.{ltb}
 use borrow.Author.Tests.{ltb-true, ltb-false}
 use Rattle.laws.proofs.Bools.{by-test}
-use Rattle.best_rows.specs.Least.{better, firstLeast, low}
+use Rattle.best_rows.specs.Least.{better, firstLeast, runningMin, Wins}
 
 -- a fact of the better of two is a fact of y where y is less, and of x where it is not
 pub better-cases : {A : Type 0} (P : A → Type 0) (f : A → ℕ) (x y : A) → (f y < f x → P y) → (f x ≤ f y → P x) → P (better f x y)
@@ -19,10 +20,6 @@ pub better-min : {A : Type 0} (f : A → ℕ) (x y : A) → f (better f x y) ≡
 better-min f x y = better-cases (λ z. f z ≡ min (f x) (f y)) f x y (λ h. omega arith) (λ h. omega arith)
 
 module _ (f : ℕ → ℕ) where
-  -- i wins over j: it is less there, or as small and no later
-  abbrev pub Wins : ℕ → ℕ → Type 0
-  Wins i j = (f i ≤ f j) × (f i ≡ f j → i ≤ j)
-
   pub first-least-within : (n : ℕ) → firstLeast f n ≤ n
   unfolding firstLeast
   first-least-within zero = omega arith
@@ -30,7 +27,7 @@ module _ (f : ℕ → ℕ) where
       let earlier = first-least-within n in
       better-cases (λ i. i ≤ suc n) f _ _ (λ h. omega arith) (λ h. omega arith)
 
-  pub first-least-wins : (n j : ℕ) → j ≤ n → Wins (firstLeast f n) j
+  pub first-least-wins : (n j : ℕ) → j ≤ n → Wins f (firstLeast f n) j
   unfolding firstLeast
   first-least-wins zero zero h = omega arith
   first-least-wins zero (suc j) h = omega arith
@@ -38,17 +35,17 @@ module _ (f : ℕ → ℕ) where
       elim (decLe j n) [
         | yes i ↦
             let earlier = first-least-wins n j i in
-            better-cases (λ i. Wins i j) f _ _ (λ less. omega arith) (λ more. earlier)
+            better-cases (λ i. Wins f i j) f _ _ (λ less. omega arith) (λ more. earlier)
         | no i ↦
             let e : f j ≡ f (suc n) = ap f (omega arith) in
             let earlier = first-least-within n in
-            better-cases (λ i. Wins i j) f _ _ (λ h. omega arith) (λ h. omega arith)
+            better-cases (λ i. Wins f i j) f _ _ (λ h. omega arith) (λ h. omega arith)
       ]
 
-  -- the least that a loop keeps is f at the first of the least, or top
-  pub low-is : (top n : ℕ) → low top f (suc n) ≡ min top (f (firstLeast f n))
-  unfolding low firstLeast
-  low-is top zero = refl
-  low-is top (suc n) =
-      better-cases (λ i. min (low top f (suc n)) (f (suc n)) ≡ min top (f i)) f (firstLeast f n) (suc n)
-      (λ h. omega (arith, low-is top n)) (λ h. omega (arith, low-is top n))
+  -- a loop's running minimum is the least value of f, or top
+  pub running-min-is : (top n : ℕ) → runningMin top f (suc n) ≡ min top (f (firstLeast f n))
+  unfolding runningMin firstLeast
+  running-min-is top zero = refl
+  running-min-is top (suc n) =
+      better-cases (λ i. min (runningMin top f (suc n)) (f (suc n)) ≡ min top (f i)) f (firstLeast f n) (suc n)
+      (λ h. omega (arith, running-min-is top n)) (λ h. omega (arith, running-min-is top n))

@@ -1,7 +1,7 @@
 -- Laws of a tree's rows by node numbers: first child and next sibling lead to the rows, and what a pass through the nodes keeps.
 use mathlib.Core.Path.{_≡_, refl, ap, _∙_}
 use mathlib.Core.Bool.{cond}
-use mathlib.Core.Logic.{_⊎_, inl, inr}
+use mathlib.Core.Logic.{inl, inr}
 use Prim.Native.Nat.{ℕ, zero, suc, _+_, _-_, _<_}
 use native.Mathlib.Omega.{arith}
 use lib.Dec.{eqb}
@@ -13,7 +13,7 @@ use Rattle.laws.proofs.Counts.{first-that-cases}
 use Rattle.model.specs.File.{Tree}
 use Rattle.model.proofs.Routes.{Preorder, parent-before}
 use Rattle.best_rows.specs.Rows.{Row, empty, node}
-use Rattle.best_rows.specs.TreeRows.{rowAfter, firstAfter, nodesAfter, firstChild, nextSibling, rowAt}
+use Rattle.best_rows.specs.TreeRows.{rowAfter, firstAfter, nodesAfter, firstChild, nextSibling, rowAt, NoneOrChild}
 
 module _ (t : Tree) where
   -- a fact of a row by whether the next node is a child of p
@@ -83,11 +83,7 @@ module _ (t : Tree) where
 
   -- ---- where first children and next siblings stand
 
-  -- u is no node, or a child of p after v
-  abbrev pub NoneOrChild : ℕ → ℕ → ℕ → Type 0
-  NoneOrChild v p u = (u ≡ 0) ⊎ ((v < u) × (u < t .count) × (t .parent u ≡ p))
-
-  first-after-stands : (v p : ℕ) → NoneOrChild v p (firstAfter t (nodesAfter t v) v p)
+  first-after-stands : (v p : ℕ) → NoneOrChild t v p (firstAfter t (nodesAfter t v) v p)
   unfolding firstAfter
   first-after-stands v p =
       elim (first-that-cases (λ u. eqb (t .parent u) p) 0 (range (suc v) (nodesAfter t v))) [
@@ -95,10 +91,10 @@ module _ (t : Tree) where
         | inr e ↦ let b = range-bounds (suc v) (nodesAfter t v) _ (e .0) in inr (omega arith, omega arith, eqb-true _ _ (e .1))
       ]
 
-  pub first-child-stands : (v : ℕ) → NoneOrChild v v (firstChild t v)
+  pub first-child-stands : (v : ℕ) → NoneOrChild t v v (firstChild t v)
   unfolding firstChild
   first-child-stands v = first-after-stands v v
 
-  pub next-sibling-stands : (v : ℕ) → NoneOrChild v (t .parent v) (nextSibling t v)
+  pub next-sibling-stands : (v : ℕ) → NoneOrChild t v (t .parent v) (nextSibling t v)
   unfolding nextSibling
   next-sibling-stands v = first-after-stands v (t .parent v)

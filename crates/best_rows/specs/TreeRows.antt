@@ -1,6 +1,8 @@
 -- The rows of a tree by node numbers. Node 0, the server, is in no row, so 0 stands for "no node".
+use mathlib.Core.Path.{_≡_}
 use mathlib.Core.Bool.{cond}
-use Prim.Native.Nat.{ℕ, zero, suc, _-_}
+use mathlib.Core.Logic.{_⊎_}
+use Prim.Native.Nat.{ℕ, zero, suc, _-_, _<_}
 use lib.Dec.{eqb}
 use Rattle.laws.specs.Lists.{range, firstThat}
 use Rattle.model.specs.File.{Tree}
@@ -38,3 +40,7 @@ module _ (t : Tree) where
   rowAt (suc i) =
       let v = suc i in
       node v (rowAfter (nodesAfter v) v v) (rowAfter (nodesAfter v) v (t .parent v))
+
+  -- u is no node, or a child of p after v
+  abbrev pub NoneOrChild : ℕ → ℕ → ℕ → Type 0
+  NoneOrChild v p u = (u ≡ 0) ⊎ ((v < u) × (u < t .count) × (t .parent u ≡ p))

@@ -6,8 +6,8 @@ use native.Mathlib.Decide.{decLt}
 use native.Mathlib.Omega.{arith}
 use lib.Dec.{ltb}
 use borrow.Author.Tests.{ltb-true, ltb-false}
-use Rattle.best_rows.specs.Least.{better, firstLeast}
-use Rattle.best_rows.proofs.Least.{Wins, first-least-within, first-least-wins}
+use Rattle.best_rows.specs.Least.{better, firstLeast, Wins}
+use Rattle.best_rows.proofs.Least.{first-least-within, first-least-wins}
 
 pub first-least-same : (f g : ℕ → ℕ) (n : ℕ) → ((i : ℕ) → i ≤ n → f i ≡ g i)
     → (firstLeast f n ≡ firstLeast g n) × (f (firstLeast f n) ≡ g (firstLeast g n))

@@ -11,7 +11,7 @@ use Rattle.laws.proofs.FrontValues.{same-on-range, entry-of-range-alone}
 use Rattle.model.specs.File.{mostNodes}
 use Rattle.best_rows.specs.Least.{better, firstLeast}
 use Rattle.best_rows.specs.Rows.{Site, empty}
-use Rattle.best_rows.specs.Best.{cap, side, turn, nodeBest, split, cell, best}
+use Rattle.best_rows.specs.Best.{cap, costIf, ownChoice, nodeBest, split, rowBest, best}
 use Rattle.best_rows.specs.BestAt.{prefer}
 use Rattle.lines.specs.Line.{Line, LineParts, RowBounds, lineSide, lineTakes, lineNode, lineSplit, lineLater, lineCell, emptyCell}
 use Rattle.lines.proofs.First.{first-least-same}
@@ -51,18 +51,18 @@ module _ (w : ℕ) (pay : Bool → ℕ) (children : Bool → ℕ → ℕ) (sibli
     rest-none = λ n h k. rw (known .rest-is, entry-of-range-alone siblings w n k) (omega (arith, s n (omega arith)));
   }
 
-  known-side : (n : ℕ) → n < w → (u : Bool) → lineSide taken spare (pay true) (pay false) n u ≡ side bit pay children n u
-  unfolding side
+  known-side : (n : ℕ) → n < w → (u : Bool) → lineSide taken spare (pay true) (pay false) n u ≡ costIf bit pay children n u
+  unfolding costIf
   known-side n h true = rw (known .taken-is, entry-of-range-alone (children true) w (n - 1) (omega arith))
   known-side n h false = rw (known .spare-is, entry-of-range-alone (children false) w (n - 0) (omega arith))
 
-  pub known-takes : (n : ℕ) → n < w → lineTakes taken spare (pay true) (pay false) n ≡ turn bit prefer pay children n
-  unfolding lineTakes turn better
+  pub known-takes : (n : ℕ) → n < w → lineTakes taken spare (pay true) (pay false) n ≡ ownChoice bit prefer pay children n
+  unfolding lineTakes ownChoice better
   known-takes n h = rw (known-side n h true, known-side n h false)
 
   pub known-node : (n : ℕ) → n < w → lineNode taken spare (pay true) (pay false) n ≡ nodeBest bit prefer pay children n
   unfolding lineNode lineTakes nodeBest
-  known-node n h = rw (known-takes n h) (known-side n h (turn bit prefer pay children n))
+  known-node n h = rw (known-takes n h) (known-side n h (ownChoice bit prefer pay children n))
 
   known-split : (m : ℕ) → m < w → (r : ℕ) → r ≤ m
       → lineSplit taken spare rest (pay true) (pay false) m r ≡ split bit prefer pay children siblings m r
@@ -76,12 +76,12 @@ module _ (w : ℕ) (pay : Bool → ℕ) (children : Bool → ℕ → ℕ) (sibli
   known-later m h = first-least-same _ _ m (known-split m h) .0
 
   pub known-cell : (m : ℕ) → m < w
-      → lineCell taken spare rest (pay true) (pay false) m ≡ cell bit prefer pay children siblings m
-  unfolding lineCell cell
+      → lineCell taken spare rest (pay true) (pay false) m ≡ rowBest bit prefer pay children siblings m
+  unfolding lineCell rowBest
   known-cell m h = rw (first-least-same _ _ m (known-split m h) .1)
 
   pub known-line : map (lineCell taken spare rest (pay true) (pay false)) (range 0 w)
-      ≡ map (cell bit prefer pay children siblings) (range 0 w)
+      ≡ map (rowBest bit prefer pay children siblings) (range 0 w)
   known-line = same-on-range _ _ 0 w (λ m _ h. known-cell m (omega arith))
 
 -- the empty row's line

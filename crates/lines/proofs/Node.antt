@@ -10,24 +10,24 @@ use lib.ListN.{getD}
 use Rattle.laws.specs.Lists.{bit}
 use Rattle.laws.proofs.Bools.{by-test}
 use Rattle.best_rows.specs.Least.{better}
-use Rattle.best_rows.specs.Best.{cap, turn, nodeBest}
+use Rattle.best_rows.specs.Best.{cap, ownChoice, nodeBest}
 use Rattle.best_rows.proofs.Least.{better-min}
-use Rattle.best_rows.proofs.Best.{side-is, side-over}
+use Rattle.best_rows.proofs.Best.{cost-if-is, cost-if-over}
 use Rattle.lines.specs.Line.{NoneFrom, NodeParts, pay, children, lineSide, lineTakes, lineNode, emptyCell}
 
 module _ (taken spare : List ℕ) (member other n : ℕ) where
   pub side-without-caches : n ≡ 0 → lineSide taken spare member other n true ≡ cap
-  side-without-caches e = side-over bit (pay member other) (children taken spare) n true (omega arith)
+  side-without-caches e = cost-if-over bit (pay member other) (children taken spare) n true (omega arith)
 
   pub side-member : 0 < n → lineSide taken spare member other n true ≡ member + getD taken (n - 1) 0
-  side-member h = side-is bit (pay member other) (children taken spare) n true h
+  side-member h = cost-if-is bit (pay member other) (children taken spare) n true h
 
   pub side-other : lineSide taken spare member other n false ≡ other + getD spare n 0
-  side-other = side-is bit (pay member other) (children taken spare) n false (omega arith) ∙ rw sub-zero
+  side-other = cost-if-is bit (pay member other) (children taken spare) n false (omega arith) ∙ rw sub-zero
 
   pub node-is-lesser : lineNode taken spare member other n
       ≡ min (lineSide taken spare member other n true) (lineSide taken spare member other n false)
-  unfolding lineNode nodeBest turn
+  unfolding lineNode nodeBest ownChoice
   node-is-lesser = better-min (lineSide taken spare member other n) true false
 
   pub node-within : (w : ℕ) → n < w → NodeParts w taken spare member other → lineNode taken spare member other n ≤ cap + cap
@@ -42,7 +42,7 @@ module _ (taken spare : List ℕ) (member other n : ℕ) where
   -- the node is a cache unless its other side costs less
   pub takes-unless-less : {with without : ℕ} {less : Bool} → with ≡ lineSide taken spare member other n true
       → without ≡ lineSide taken spare member other n false → less ≡ ltb without with → not less ≡ lineTakes taken spare member other n
-  unfolding lineTakes turn better
+  unfolding lineTakes ownChoice better
   takes-unless-less hw ho hl =
       let less = ltb (lineSide taken spare member other n false) (lineSide taken spare member other n true) in
       rw (hl, hw, ho) (by-test (λ b. not b ≡ cond b false true) less (λ _. refl) (λ _. refl))

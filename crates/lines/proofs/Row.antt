@@ -13,12 +13,12 @@ use Rattle.laws.proofs.Lists.{length-of-range}
 use Rattle.laws.proofs.Stores.{entry-after}
 use Rattle.laws.proofs.FrontValues.{same-on-range, front-is-entries}
 use Rattle.laws.proofs.Ranges.{entry-stored}
-use Rattle.best_rows.specs.Least.{low}
-use Rattle.best_rows.specs.Best.{cap, split, cell}
-use Rattle.best_rows.proofs.Least.{low-is}
+use Rattle.best_rows.specs.Least.{runningMin}
+use Rattle.best_rows.specs.Best.{cap, split, rowBest}
+use Rattle.best_rows.proofs.Least.{running-min-is}
 use Rattle.lines.specs.Line.{mostWidth, NoneFrom, LineParts, RowBounds, ownEnd, restEnd, RowParts, lineNode, lineSplit, lineCell, rowSplit, rowCell, Cleared, Lowered}
 use Rattle.lines.proofs.Node.{node-within, node-none}
-use Rattle.lines.proofs.Low.{low-within, low-same, low-leaves-out, low-turned}
+use Rattle.lines.proofs.Low.{running-min-within, running-min-same, running-min-leaves-out, running-min-reversed}
 
 -- ---- lowering a line to the splits with r caches in one part
 
@@ -62,17 +62,17 @@ module _ (before other : List ℕ) (r x : ℕ) where
 module _ (node rest : List ℕ) (w : ℕ) where
   -- each entry is the least of its splits with fewer than r caches in `rest`
   abbrev pub LeastBefore : ℕ → List ℕ → Type 0
-  LeastBefore r line = (m : ℕ) → m < w → getD line m 0 ≡ low cap (rowSplit node rest m) (min r (m + 1))
+  LeastBefore r line = (m : ℕ) → m < w → getD line m 0 ≡ runningMin cap (rowSplit node rest m) (min r (m + 1))
 
   pub row-begins : (line : List ℕ) → Cleared w line → LeastBefore 0 line
-  unfolding low
+  unfolding runningMin
   row-begins line clear m h =
       let none : min 0 (m + 1) ≡ 0 = omega arith in
       rw none (clear m h)
 
   pub row-turns : (e r end : ℕ) (line after : List ℕ) {x : ℕ} → NoneFrom e w node → x ≡ getD rest r 0 → end ≡ min e (w - r)
       → LeastBefore r line → Lowered line node end r x after → LeastBefore (r + 1) after
-  unfolding low
+  unfolding runningMin
   row-turns e r end line after none hx he so-far lowered m h =
       elim (decLt m r) [
         | yes l ↦
@@ -86,7 +86,7 @@ module _ (node rest : List ℕ) (w : ℕ) where
             (elim (decLt (m - r) end) [
               | yes i ↦ omega (arith, rw here at (lowered .inside (m - r) i), rw last at (so-far m h))
               | no i ↦
-                  omega (arith, lowered .outside m (inr (omega arith)), rw last at (so-far m h), none (m - r) (omega arith) (omega arith), low-within cap (rowSplit node rest m) r)
+                  omega (arith, lowered .outside m (inr (omega arith)), rw last at (so-far m h), none (m - r) (omega arith) (omega arith), running-min-within cap (rowSplit node rest m) r)
             ])
       ]
 
@@ -99,7 +99,7 @@ module _ (node rest : List ℕ) (w : ℕ) where
       ∙ same-on-range _ _ 0 w
       (λ m _ k.
       so-far m (omega arith)
-      ∙ low-leaves-out cap (rowSplit node rest m) (min e (m + 1)) (m + 1) (omega arith) (λ i p q. omega (arith, none i (omega arith) (omega arith))))
+      ∙ running-min-leaves-out cap (rowSplit node rest m) (min e (m + 1)) (m + 1) (omega arith) (λ i p q. omega (arith, none i (omega arith) (omega arith))))
 
 -- ---- the parts may change places
 
@@ -114,7 +114,7 @@ row-parts-turned p = record {
 row-cell-turned : (node rest : List ℕ) (m : ℕ) → rowCell node rest m ≡ rowCell rest node m
 unfolding rowCell
 row-cell-turned node rest m =
-    low-turned cap (rowSplit node rest m) (rowSplit rest node m) m
+    running-min-reversed cap (rowSplit node rest m) (rowSplit rest node m) m
     (λ i h. let back : m - (m - i) ≡ i = omega arith in rw back (omega arith))
 
 pub row-turned : (node rest : List ℕ) (w : ℕ) → map (rowCell node rest) (range 0 w) ≡ map (rowCell rest node) (range 0 w)
@@ -162,9 +162,9 @@ module _ {taken spare rest : List ℕ} {member other w below after : ℕ} (parts
   }
 
   row-is-cell : (m : ℕ) → m < w → rowCell node copy m ≡ lineCell taken spare rest member other m
-  unfolding rowCell lineCell lineNode split cell
+  unfolding rowCell lineCell lineNode split rowBest
   row-is-cell m h =
-      low-same cap (rowSplit node copy m) (lineSplit taken spare rest member other m) (m + 1)
+      running-min-same cap (rowSplit node copy m) (lineSplit taken spare rest member other m) (m + 1)
       (λ i l.
       elim (decLt (m - i) end) [
         | yes k ↦ omega (arith, entry-known (m - i) k, entry-copied i (omega arith))
@@ -175,7 +175,7 @@ module _ {taken spare rest : List ℕ} {member other w below after : ℕ} (parts
               node-none taken spare member other (m - i) w below (bounds .taken-none) (bounds .spare-none) (omega arith) (omega arith),
             )
       ])
-      ∙ rw (add-one m) (low-is (lineSplit taken spare rest member other m) cap m)
+      ∙ rw (add-one m) (running-min-is (lineSplit taken spare rest member other m) cap m)
 
   pub row-is-line : map (rowCell node copy) (range 0 w) ≡ map (lineCell taken spare rest member other) (range 0 w)
   row-is-line = same-on-range (rowCell node copy) (lineCell taken spare rest member other) 0 w (λ m _ h. row-is-cell m (omega arith))

@@ -7,8 +7,8 @@ use Prim.Native.Nat.{ℕ, zero, suc, _+_, _-_, _≤_, _<_, _^_, min}
 use lib.ListN.{length, getD}
 use Rattle.laws.specs.Lists.{bit}
 use Rattle.model.specs.File.{mostBudget, mostNodes}
-use Rattle.best_rows.specs.Least.{firstLeast, low}
-use Rattle.best_rows.specs.Best.{cap, side, turn, nodeBest, split, cell}
+use Rattle.best_rows.specs.Least.{firstLeast, runningMin}
+use Rattle.best_rows.specs.Best.{cap, costIf, ownChoice, nodeBest, split, rowBest}
 use Rattle.best_rows.specs.BestAt.{prefer}
 
 -- the most entries that a line has: counts from 0 to the largest budget
@@ -42,11 +42,11 @@ children taken spare u n = getD (cond u taken spare) n 0
 module _ (taken spare : List ℕ) (member other : ℕ) where
   -- the node and its children with n caches, by whether the node is one of them
   abbrev pub lineSide : ℕ → Bool → ℕ
-  lineSide = side bit (pay member other) (children taken spare)
+  lineSide = costIf bit (pay member other) (children taken spare)
 
   -- is the node one of these n caches?
   unfoldable pub lineTakes : ℕ → Bool
-  lineTakes = turn bit prefer (pay member other) (children taken spare)
+  lineTakes = ownChoice bit prefer (pay member other) (children taken spare)
 
   -- the least of the node and its children with n caches
   unfoldable pub lineNode : ℕ → ℕ
@@ -69,7 +69,7 @@ module _ (taken spare rest : List ℕ) (member other : ℕ) where
 
   -- the least of the row with m caches
   unfoldable pub lineCell : ℕ → ℕ
-  lineCell = cell bit prefer (pay member other) (children taken spare) (λ r. getD rest r 0)
+  lineCell = rowBest bit prefer (pay member other) (children taken spare) (λ r. getD rest r 0)
 
 -- the row can have m caches, and of these no more than `most` at or below its first node
 pub record SplitBound (taken spare rest : List ℕ) (member other m most : ℕ) : Type 0 where
@@ -107,7 +107,7 @@ rowSplit node rest m r = getD node (m - r) 0 + getD rest r 0
 
 -- the least of the row with m caches
 unfoldable pub rowCell : List ℕ → List ℕ → ℕ → ℕ
-rowCell node rest m = low cap (rowSplit node rest m) (m + 1)
+rowCell node rest m = runningMin cap (rowSplit node rest m) (m + 1)
 
 -- no count below w has a choice yet
 abbrev pub Cleared : ℕ → List ℕ → Type 0

@@ -10,9 +10,8 @@ use lib.Seq.{getD-set-same, getD-set-other}
 use Rattle.model.specs.File.{Tree, treeOf, demandOf, mostNodes}
 use Rattle.model.proofs.Accepted.{accepted-header}
 use Rattle.best_rows.specs.Rows.{rowSize}
-use Rattle.best_rows.specs.TreeRows.{rowAt}
+use Rattle.best_rows.specs.TreeRows.{rowAt, NoneOrChild}
 use Rattle.best_rows.proofs.Table.{row-size-none, row-size-node}
-use Rattle.best_rows.proofs.TreeRows.{NoneOrChild}
 use Rattle.best_rows.proofs.Cover.{row-size-within}
 use Rattle.node_words.specs.Words.{childWord, siblingWord, wordOf, HasNode}
 use Rattle.node_words.specs.Sizes.{FileWords, RowSizes}

@@ -12,7 +12,8 @@ use Rattle.model.specs.File.{Tree, treeOf, demandOf}
 use Rattle.model.proofs.Routes.{parent-before}
 use Rattle.model.proofs.Accepted.{accepted-header, Sound, accepted-sound}
 use Rattle.fields.specs.Table.{InFile}
-use Rattle.best_rows.proofs.TreeRows.{NoneOrChild, first-child-stands, next-sibling-stands}
+use Rattle.best_rows.specs.TreeRows.{NoneOrChild}
+use Rattle.best_rows.proofs.TreeRows.{first-child-stands, next-sibling-stands}
 use Rattle.node_words.specs.Words.{wordAt, distanceWord, depthWord, childWord, siblingWord, wordOf, HasNode, NodeRoom, SiteRoom, NodeWords, withPair, Noted}
 
 -- ---- one store

@@ -6,8 +6,8 @@ use native.Mathlib.Omega.{arith}
 use Rattle.model.specs.File.{Tree}
 use Rattle.model.specs.Tree.{depth}
 use Rattle.model.proofs.Routes.{Preorder}
-use Rattle.best_rows.specs.TreeRows.{firstChild, nextSibling}
-use Rattle.best_rows.proofs.TreeRows.{NoneOrChild, first-child-stands, next-sibling-stands}
+use Rattle.best_rows.specs.TreeRows.{firstChild, nextSibling, NoneOrChild}
+use Rattle.best_rows.proofs.TreeRows.{first-child-stands, next-sibling-stands}
 use Rattle.node_words.specs.Ancestors.{ancestorAt}
 use Rattle.node_words.proofs.Ancestors.{child-depth, child-ancestor, child-ancestor-parent, sibling-depth, sibling-ancestor}
 use Rattle.optimum.specs.Walk.{RowServed}

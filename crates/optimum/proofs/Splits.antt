@@ -7,7 +7,7 @@ use native.Mathlib.Omega.{arith}
 use Rattle.model.specs.File.{treeOf, demandOf}
 use Rattle.model.specs.Bill.{price}
 use Rattle.fields.specs.declared.Tree as code
-use Rattle.best_rows.specs.Best.{nodeBest, split, cell}
+use Rattle.best_rows.specs.Best.{nodeBest, split, rowBest}
 use Rattle.best_rows.specs.TreeRows.{nextSibling}
 use Rattle.best_rows.specs.BestAt.{site, bestAt, childrenAt, nodeBestAt, takesNode, splitAt, laterAt}
 use Rattle.best_rows.proofs.Cover.{next-sibling-is}
@@ -50,7 +50,7 @@ module _ {file : List ℕ} {sizes : code.Tree} {s : List ℕ} {x server m : ℕ}
     -- at or below x there are no more than the nodes from x up to its next sibling
     pub split-bound : {sibling most : ℕ} → sibling ≡ wordOf s x siblingWord → MostBelow x sibling m most
         → SplitBound taken spare rest member other m most
-    unfolding laterAt splitAt nodeBestAt nodeBest split cell
+    unfolding laterAt splitAt nodeBestAt nodeBest split rowBest
     split-bound f b =
         let t = treeOf file in
         let d = demandOf file in

@@ -16,7 +16,7 @@ use Rattle.model.specs.File.{Tree, Demand, mostNodes}
 use Rattle.model.specs.Bill.{price}
 use Rattle.model.proofs.Accepted.{Sound}
 use Rattle.best_rows.specs.Rows.{rowSize}
-use Rattle.best_rows.specs.Best.{cell, best}
+use Rattle.best_rows.specs.Best.{rowBest, best}
 use Rattle.best_rows.specs.TreeRows.{firstChild, nextSibling, rowAt}
 use Rattle.best_rows.specs.BestAt.{one, prefer, site, bestAt, childrenAt}
 use Rattle.best_rows.proofs.TreeRows.{row-at-none, row-at-node}
@@ -29,10 +29,10 @@ use Rattle.table.proofs.Prices.{price-within-cap}
 
 module _ (t : Tree) (d : Demand) where
   -- the row that begins with v, from those of its children and its later siblings
-  best-at-cell : (v c m : ℕ) → 0 < v → v < t .count
-      → bestAt t d v c m ≡ cell bit prefer (site t d v .pay c) (childrenAt t d v c) (bestAt t d (nextSibling t v) c) m
+  best-at-row-best : (v c m : ℕ) → 0 < v → v < t .count
+      → bestAt t d v c m ≡ rowBest bit prefer (site t d v .pay c) (childrenAt t d v c) (bestAt t d (nextSibling t v) c) m
   unfolding bestAt best
-  best-at-cell v c m h k = ap (λ r. best one prefer (site t d) r c m) (row-at-node t v h k)
+  best-at-row-best v c m h k = ap (λ r. best one prefer (site t d) r c m) (row-at-node t v h k)
 
   best-at-empty : (c m : ℕ) → bestAt t d 0 c m ≡ emptyCell m
   unfolding bestAt
@@ -64,7 +64,7 @@ module _ (t : Tree) (d : Demand) where
     unfolding lineFor
     line-joined v a u taken spare rest h k e known =
         known-line w (site t d v .pay u) (childrenAt t d v u) (bestAt t d (nextSibling t v) u) taken spare rest known
-        ∙ same-on-range _ _ 0 w (λ m _ _. sym (best-at-cell v u m h k) ∙ ap (λ c. bestAt t d v c m) e)
+        ∙ same-on-range _ _ 0 w (λ m _ _. sym (best-at-row-best v u m h k) ∙ ap (λ c. bestAt t d v c m) e)
 
     -- the same, of what the code made
     pub line-read : {v a u n member other : ℕ} {taken spare rest : List ℕ} (l : List ℕ) → Served t v a u

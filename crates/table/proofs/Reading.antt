@@ -12,9 +12,9 @@ use Rattle.model.specs.File.{Tree, mostNodes, treeOf, demandOf, countOf}
 use Rattle.model.specs.Tree.{depth}
 use Rattle.model.proofs.Routes.{Preorder}
 use Rattle.fields.specs.declared.Tree as code
-use Rattle.best_rows.specs.TreeRows.{firstChild, nextSibling}
+use Rattle.best_rows.specs.TreeRows.{firstChild, nextSibling, NoneOrChild}
 use Rattle.best_rows.specs.BestAt.{bestAt, childrenAt}
-use Rattle.best_rows.proofs.TreeRows.{NoneOrChild, first-child-stands, next-sibling-stands}
+use Rattle.best_rows.proofs.TreeRows.{first-child-stands, next-sibling-stands}
 use Rattle.best_rows.proofs.Cover.{row-size-within}
 use Rattle.node_words.specs.Words.{HasNode, wordOf, depthWord, childWord, siblingWord}
 use Rattle.node_words.specs.Ancestors.{ancestorAt}

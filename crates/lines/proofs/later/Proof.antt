@@ -3,7 +3,7 @@ use mathlib.Core.Logic.{⊎-elim}
 use Prim.Native.Nat.{_+_, _-_, _≤_}
 use native.Mathlib.Omega.{arith}
 use borrow.Author.Needs.{needs}
-use Rattle.best_rows.specs.Best.{split, cell}
+use Rattle.best_rows.specs.Best.{split, rowBest}
 use Rattle.lines.specs.Line.{lineNode, lineSplit, lineLater, lineCell}
 use Rattle.lines.proofs.First.{FirstFrom, first-begins, first-lowers, first-stays, first-ends}
 use Rattle.lines.proofs.later.Statement.{statement}
@@ -51,7 +51,7 @@ loop-again c =
     )
 
 returns : tie.Need-returns Inv-loop μ-loop
-unfolding lineLater lineNode lineCell split cell
+unfolding lineLater lineNode lineCell split rowBest
 returns c =
     let st = c .before .before .before .before .before .before in
     let bound = st .pre .1 in
