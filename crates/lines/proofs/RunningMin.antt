@@ -1,4 +1,4 @@
--- Laws of the least that a loop keeps: what does not come below the top may be left out, and the order does not matter.
+-- Laws of a loop's running minimum: values that are not below the first one may be left out, and the order does not matter.
 use mathlib.Core.Path.{_≡_, refl, ap}
 use Prim.Native.Nat.{ℕ, zero, suc, _+_, _-_, _≤_, _<_, min}
 use native.Mathlib.Decide.{decLe}
@@ -28,7 +28,7 @@ module _ (top : ℕ) where
         | no l ↦ let e : a ≡ suc b = omega arith in rw e
       ]
 
-  -- it is the greatest that is above none of them
+  -- it is the greatest number that is above none of them
   running-min-under : (f : ℕ → ℕ) (n i : ℕ) → i < n → runningMin top f n ≤ f i
   unfolding runningMin
   running-min-under f zero i h = absurd (omega arith)
@@ -43,7 +43,7 @@ module _ (top : ℕ) where
   running-min-over f zero x h k = h
   running-min-over f (suc n) x h k = omega (arith, running-min-over f n x h (λ i l. k i (omega arith)), k n (omega arith))
 
-  -- two functions of which one is the other from its end
+  -- two functions of which one is the other backwards
   pub running-min-reversed : (f g : ℕ → ℕ) (n : ℕ) → ((i : ℕ) → i ≤ n → f i ≡ g (n - i)) → runningMin top f (n + 1) ≡ runningMin top g (n + 1)
   running-min-reversed f g n h =
       omega (
