@@ -1,4 +1,5 @@
--- Where not every choice is allowed at a node, the dynamic program finds the first of the least over the allowed choices.
+-- Where not every choice is allowed at a node, the dynamic program finds the first, in the order of ties, of the allowed choices
+-- of least cost.
 use mathlib.Core.Path.{_≡_, refl}
 use mathlib.Core.Bool.{Bool, true, cond}
 use Prim.Native.Nat.{ℕ, _≤_, _<_}
@@ -27,7 +28,7 @@ module _ {C : Type 0} (allows : ℕ → Bool → Bool) (s : ℕ → Site C) wher
     guarded-allows b c (x .2) (omega arith),
   )
 
-  -- the choice taken within a budget is allowed, costs the least found, and ranks no later than any other that is allowed
+  -- the choice found within a budget is allowed, costs the least found, and ranks no later than any other that is allowed
   pub guarded-ranks : (w : ℕ → Bool → ℕ) (p : Bool) (r : Row) (c : C) (b : ℕ) (y : Choice r)
       → Allowed allows r y → rowCount w r y ≤ b → rowCost s r c y < cap
       → let f = best w p (guarded allows s) r c in

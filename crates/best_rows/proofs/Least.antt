@@ -1,4 +1,5 @@
--- Laws of the first of the least: it is less than every other or as small and no later, and a loop that keeps the least has it.
+-- Laws of the smallest index with the least value: every other value is larger, or as large at a later index; and a loop's
+-- running minimum is the value there.
 use mathlib.Core.Path.{_≡_, refl, ap}
 use mathlib.Core.Bool.{cond}
 use Prim.Native.Nat.{ℕ, zero, suc, _≤_, _<_, min}
@@ -8,7 +9,7 @@ use lib.Dec.{ltb}
 use borrow.Author.Tests.{ltb-true, ltb-false}
 use Rattle.laws.specs.FirstLeast.{NoLaterBy}
 use Rattle.laws.proofs.Bools.{by-test}
-use Rattle.best_rows.specs.Least.{better, firstLeast, low}
+use Rattle.best_rows.specs.Least.{better, firstLeast, runningMin}
 
 -- a fact of the better of two is a fact of y where y is less, and of x where it is not
 pub better-cases : {A : Type 0} (P : A → Type 0) (f : A → ℕ) (x y : A) → (f y < f x → P y) → (f x ≤ f y → P x) → P (better f x y)
@@ -42,10 +43,10 @@ module _ (f : ℕ → ℕ) where
             better-cases (λ i. NoLaterBy f i j) f _ _ (λ h. omega arith) (λ h. omega arith)
       ]
 
-  -- the least that a loop keeps is f at the first of the least, or top
-  pub low-is : (top n : ℕ) → low top f (suc n) ≡ min top (f (firstLeast f n))
-  unfolding low firstLeast
-  low-is top zero = refl
-  low-is top (suc n) =
-      better-cases (λ i. min (low top f (suc n)) (f (suc n)) ≡ min top (f i)) f (firstLeast f n) (suc n)
-      (λ h. omega (arith, low-is top n)) (λ h. omega (arith, low-is top n))
+  -- a loop's running minimum is the least value of f, or top
+  pub running-min-is : (top n : ℕ) → runningMin top f (suc n) ≡ min top (f (firstLeast f n))
+  unfolding runningMin firstLeast
+  running-min-is top zero = refl
+  running-min-is top (suc n) =
+      better-cases (λ i. min (runningMin top f (suc n)) (f (suc n)) ≡ min top (f i)) f (firstLeast f n) (suc n)
+      (λ h. omega (arith, running-min-is top n)) (λ h. omega (arith, running-min-is top n))

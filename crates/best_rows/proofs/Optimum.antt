@@ -16,7 +16,7 @@ use Rattle.best_rows.specs.Best.{best, chooseWithin}
 use Rattle.best_rows.specs.TreeRows.{nodesAfter, firstChild, rowAt, serverRow}
 use Rattle.best_rows.specs.BestAt.{one, prefer, site, bestAt, bestNodes, leastCount}
 use Rattle.best_rows.proofs.TreeRows.{row-at-first}
-use Rattle.best_rows.proofs.RanksFirst.{takenNodes, taken-ranks-first, taken-total}
+use Rattle.best_rows.proofs.RanksFirst.{nodesFound, nodes-found-rank-first, nodes-found-total}
 
 -- the row that begins with the server's first child is the server's row
 row-at-server : (t : Tree) → rowAt t (firstChild t 0) ≡ serverRow t
@@ -28,14 +28,14 @@ module _ (t : Tree) (d : Demand) (ok : Sound t d) (b : ℕ) where
   unfolding bestNodes bestAt leastCount
   best-nodes-are-plan =
       ap (λ r. chosen r (chooseWithin one prefer (site t d) r 0 b)) (row-at-server t)
-      ∙ only-plan t d b (takenNodes t d b) (taken-ranks-first t d ok b)
+      ∙ only-plan t d b (nodesFound t d b) (nodes-found-rank-first t d ok b)
 
   best-at-is-plan-total : bestAt t d (firstChild t 0) 0 (leastCount t d b) ≡ planTotal t d b
   unfolding bestAt leastCount
   best-at-is-plan-total =
       ap (λ r. let f = best one prefer (site t d) r 0 in f (firstLeast f b)) (row-at-server t)
-      ∙ sym (taken-total t d ok b)
-      ∙ ap (total t d) (only-plan t d b (takenNodes t d b) (taken-ranks-first t d ok b))
+      ∙ sym (nodes-found-total t d ok b)
+      ∙ ap (total t d) (only-plan t d b (nodesFound t d b) (nodes-found-rank-first t d ok b))
 
 -- for every accepted file and every budget
 pub optimum-found : (file : List ℕ) → fileVerdict file ≡ passed → (b : ℕ)

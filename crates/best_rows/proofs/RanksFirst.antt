@@ -1,4 +1,4 @@
--- The members of the choice taken on the server's row, as a set, rank first of all sets within the budget, at the least cost found.
+-- The caches that the dynamic program finds on the server's row rank first of all sets within the budget, at the least cost found.
 use mathlib.Core.Path.{_≡_, refl, sym, ap, _∙_}
 use mathlib.Core.Bool.{true}
 use mathlib.Core.List.{List, []}
@@ -28,12 +28,12 @@ use Rattle.best_rows.proofs.Ties.{not-preceded}
 use Rattle.best_rows.proofs.Chosen.{length-chosen, chosen-is-set, choice-of-chosen}
 
 module _ (t : Tree) (d : Demand) (b : ℕ) where
-  -- the choice taken on the server's row, and its members
-  abbrev taken : Choice (serverRow t)
-  taken = chooseWithin one prefer (site t d) (serverRow t) 0 b
+  -- the choice found on the server's row, and its members
+  abbrev choiceFound : Choice (serverRow t)
+  choiceFound = chooseWithin one prefer (site t d) (serverRow t) 0 b
 
-  abbrev pub takenNodes : List ℕ
-  takenNodes = chosen (serverRow t) taken
+  abbrev pub nodesFound : List ℕ
+  nodesFound = chosen (serverRow t) choiceFound
 
   -- the least found there
   abbrev leastFound : ℕ
@@ -69,30 +69,30 @@ module _ (t : Tree) (d : Demand) (ok : Sound t d) where
   nodes-ascend = rw (server-row-whole t (ok .preorder) (t .count - 1)) (ascends-range (t .count) 0 (t .count - 1) (omega arith))
 
   module _ (b : ℕ) where
-    taken-is : choiceOf (takenNodes t d b) (serverRow t) ≡ taken t d b
-    taken-is = choice-of-chosen (t .count) (serverRow t) (taken t d b) 0 nodes-ascend
+    choice-found-is : choiceOf (nodesFound t d b) (serverRow t) ≡ choiceFound t d b
+    choice-found-is = choice-of-chosen (t .count) (serverRow t) (choiceFound t d b) 0 nodes-ascend
 
-    -- what the choice taken is to each set within the budget
-    taken-ranks : (l : List ℕ) → isSet t l ≡ true → length l ≤ b
-        → (rowCount one (serverRow t) (taken t d b) ≤ b)
-        × (rowCost (site t d) (serverRow t) 0 (taken t d b) ≡ leastFound t d b)
-        × RanksNoLater one prefer (site t d) (serverRow t) 0 (taken t d b) (choiceOf l (serverRow t))
-    taken-ranks l g h =
+    -- how the choice found compares with each set within the budget
+    choice-found-ranks : (l : List ℕ) → isSet t l ≡ true → length l ≤ b
+        → (rowCount one (serverRow t) (choiceFound t d b) ≤ b)
+        × (rowCost (site t d) (serverRow t) 0 (choiceFound t d b) ≡ leastFound t d b)
+        × RanksNoLater one prefer (site t d) (serverRow t) 0 (choiceFound t d b) (choiceOf l (serverRow t))
+    choice-found-ranks l g h =
         within-ranks one prefer (site t d) (serverRow t) 0 b (choiceOf l (serverRow t))
         (omega (arith, length-is-row-count t (ok .preorder) l g)) (below-cap l)
 
-    pub taken-total : total t d (takenNodes t d b) ≡ leastFound t d b
+    pub nodes-found-total : total t d (nodesFound t d b) ≡ leastFound t d b
     unfolding ascends
-    taken-total = total-is (takenNodes t d b) ∙ ap (rowCost (site t d) (serverRow t) 0) taken-is ∙ taken-ranks [] refl (omega arith) .1
+    nodes-found-total = total-is (nodesFound t d b) ∙ ap (rowCost (site t d) (serverRow t) 0) choice-found-is ∙ choice-found-ranks [] refl (omega arith) .1
 
-    pub taken-ranks-first : RanksFirst t d b (takenNodes t d b)
+    pub nodes-found-rank-first : RanksFirst t d b (nodesFound t d b)
     unfolding ascends
-    taken-ranks-first =
-        let isASet = chosen-is-set (t .count) (serverRow t) (taken t d b) 0 nodes-ascend in
+    nodes-found-rank-first =
+        let isASet = chosen-is-set (t .count) (serverRow t) (choiceFound t d b) 0 nodes-ascend in
         record {
           isASet = isASet;
-          within = omega (arith, length-chosen (serverRow t) (taken t d b), taken-ranks [] refl (omega arith) .0);
+          within = omega (arith, length-chosen (serverRow t) (choiceFound t d b), choice-found-ranks [] refl (omega arith) .0);
           first = λ l g h other.
-              ⊎-elim (λ p. p) (λ q. absurd (not-outranked (takenNodes t d b) l isASet g (rw taken-is (taken-ranks l g h .2)) q))
-              (rank-total t d (takenNodes t d b) l isASet g (λ e. other (sym e)));
+              ⊎-elim (λ p. p) (λ q. absurd (not-outranked (nodesFound t d b) l isASet g (rw choice-found-is (choice-found-ranks l g h .2)) q))
+              (rank-total t d (nodesFound t d b) l isASet g (λ e. other (sym e)));
         }

@@ -9,11 +9,11 @@ use lib.ListN.{length}
 use Rattle.model.specs.File.{Tree, Demand}
 use Rattle.model.specs.Bill.{price}
 use Rattle.best_rows.specs.Rows.{Row, empty, node, Choice, ifMember, chosen, rowSize, rowCount}
-use Rattle.best_rows.specs.Best.{cap, nodeBest, split, cell, best, choose}
+use Rattle.best_rows.specs.Best.{cap, nodeBest, split, rowBest, best, choose}
 use Rattle.best_rows.specs.TreeRows.{firstChild, nextSibling, rowAt}
 use Rattle.best_rows.specs.BestAt.{one, prefer, site, bestAt, bestNodes, childrenAt, nodeBestAt, takesNode, splitAt, laterAt}
 use Rattle.best_rows.proofs.Least.{first-least-within}
-use Rattle.best_rows.proofs.Best.{side-fits, best-within-cap, best-attained}
+use Rattle.best_rows.proofs.Best.{cost-if-fits, best-within-cap, best-attained}
 use Rattle.best_rows.proofs.TreeRows.{row-at-none, row-at-node}
 use Rattle.best_rows.proofs.Chosen.{length-chosen}
 
@@ -68,7 +68,7 @@ module _ (t : Tree) (d : Demand) where
       → let u = takesNode t d v c n in
       (one v u ≤ n) × (nodeBestAt t d v c n ≡ price t d v (cond u v c) + bestAt t d (firstChild t v) (cond u v c) (n - one v u))
   unfolding nodeBestAt takesNode nodeBest
-  node-best-attained v c n h = side-fits (one v) (site t d v .pay c) (childrenAt t d v c) n (takesNode t d v c n) h
+  node-best-attained v c n h = cost-if-fits (one v) (site t d v .pay c) (childrenAt t d v c) n (takesNode t d v c n) h
 
   -- more caches than v and the nodes below it cannot be had
   pub node-best-over : (v c n : ℕ) → 1 + rowSize (rowAt t (firstChild t v)) < n → cap ≤ nodeBestAt t d v c n
@@ -90,7 +90,7 @@ module _ (t : Tree) (d : Demand) where
 
     module _ (c m : ℕ) where
       best-at-split : bestAt t d v c m ≡ min cap (splitAt t d v c m (laterAt t d v c m))
-      unfolding bestAt best cell split splitAt laterAt nodeBestAt
+      unfolding bestAt best rowBest split splitAt laterAt nodeBestAt
       best-at-split = ap (λ r. best one prefer (site t d) r c m) (row-at-node t v some fits)
 
       pub best-nodes-node :

@@ -1,4 +1,5 @@
--- The rules of document 01 on the rows of a tree: the least total and its caches, by node number, serving node and count.
+-- The dynamic program for document 01's costs: the least cost of a row of a tree and its caches, by the row's first node, the
+-- serving node above it and the number of caches.
 use mathlib.Core.Bool.{Bool, true, cond}
 use mathlib.Core.List.{List}
 use Prim.Native.Nat.{ℕ, _+_, _-_}
@@ -6,7 +7,7 @@ use Rattle.model.specs.File.{Tree, Demand}
 use Rattle.model.specs.Bill.{price}
 use Rattle.best_rows.specs.Least.{firstLeast}
 use Rattle.best_rows.specs.Rows.{Site, chosen}
-use Rattle.best_rows.specs.Best.{turn, nodeBest, best, choose}
+use Rattle.best_rows.specs.Best.{ownChoice, nodeBest, best, choose}
 use Rattle.best_rows.specs.TreeRows.{firstChild, nextSibling, rowAt}
 
 -- every member counts for one
@@ -18,40 +19,40 @@ abbrev pub prefer : Bool
 prefer = true
 
 module _ (t : Tree) (d : Demand) where
-  -- the context is the serving node; a member serves itself and its children
+  -- the context is the serving node above; a cache serves itself and what is below it
   abbrev pub site : ℕ → Site ℕ
-  site v = record { pay = λ server u. price t d v (cond u v server); down = λ server u. cond u v server }
+  site v = record { pay = λ serving u. price t d v (cond u v serving); down = λ serving u. cond u v serving }
 
-  -- the least that the row that begins with v costs under a serving node, with exactly m caches
+  -- the least cost of the row that begins with v, under a serving node, with exactly m caches
   unfoldable pub bestAt : ℕ → ℕ → ℕ → ℕ
-  bestAt v server m = best one prefer site (rowAt t v) server m
+  bestAt v serving m = best one prefer site (rowAt t v) serving m
 
   -- the caches chosen there, ascending
   unfoldable pub bestNodes : ℕ → ℕ → ℕ → List ℕ
-  bestNodes v server m = chosen (rowAt t v) (choose one prefer site (rowAt t v) server m)
+  bestNodes v serving m = chosen (rowAt t v) (choose one prefer site (rowAt t v) serving m)
 
-  -- how many caches the plan has at budget b: the first count at which the least of the server's row is least
+  -- how many caches the plan has at budget b: the smallest count at which the server's row costs least
   unfoldable pub leastCount : ℕ → ℕ
   leastCount b = firstLeast (bestAt (firstChild t 0) 0) b
 
   -- ---- one step, by node numbers
 
-  -- the least of the row of v's children, by whether v is a member
+  -- the least cost of the row of v's children, by whether v is a cache
   abbrev pub childrenAt : ℕ → ℕ → Bool → ℕ → ℕ
-  childrenAt v server u = bestAt (firstChild t v) (cond u v server)
+  childrenAt v serving u = bestAt (firstChild t v) (cond u v serving)
 
-  -- the least of node v and the row of its children, with n caches
+  -- the least cost of node v and the row of its children, with n caches
   unfoldable pub nodeBestAt : ℕ → ℕ → ℕ → ℕ
-  nodeBestAt v server = nodeBest (one v) prefer (site v .pay server) (childrenAt v server)
+  nodeBestAt v serving = nodeBest (one v) prefer (site v .pay serving) (childrenAt v serving)
 
   -- is v one of these n caches?
   unfoldable pub takesNode : ℕ → ℕ → ℕ → Bool
-  takesNode v server = turn (one v) prefer (site v .pay server) (childrenAt v server)
+  takesNode v serving = ownChoice (one v) prefer (site v .pay serving) (childrenAt v serving)
 
-  -- the row that begins with v with m caches, of which r are among v's later siblings
+  -- the cost of the row that begins with v with m caches, of which r are among v's later siblings
   unfoldable pub splitAt : ℕ → ℕ → ℕ → ℕ → ℕ
-  splitAt v server m r = nodeBestAt v server (m - r) + bestAt (nextSibling t v) server r
+  splitAt v serving m r = nodeBestAt v serving (m - r) + bestAt (nextSibling t v) serving r
 
-  -- how many of the m caches are among v's later siblings: the least number at which the split is least
+  -- how many of the m caches are among v's later siblings: the smallest number at which the split costs least
   unfoldable pub laterAt : ℕ → ℕ → ℕ → ℕ
-  laterAt v server m = firstLeast (splitAt v server m) m
+  laterAt v serving m = firstLeast (splitAt v serving m) m

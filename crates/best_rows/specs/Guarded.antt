@@ -1,4 +1,4 @@
--- Rules under which not every choice is allowed at a node: it may be closed, or have to be a member, or have to be none.
+-- Costs where not every choice is allowed at a node: a cache may be forbidden there, or required.
 use mathlib.Core.Path.{_≡_}
 use mathlib.Core.Bool.{Bool, true, cond}
 use Prim.Native.Nat.{ℕ}

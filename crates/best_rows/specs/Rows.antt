@@ -44,7 +44,7 @@ unfoldable pub rowCount : (ℕ → Bool → ℕ) → (r : Row) → Choice r → 
 rowCount w empty x = 0
 rowCount w (node v a b) x = w v (x .0) + rowCount w a (x .1) + rowCount w b (x .2)
 
--- the rules at a node, by the context that it meets from above and its own choice: what it pays, and the context that its
+-- the costs at a node, by the context that it meets from above and its own choice: what it pays, and the context that its
 -- children meet
 pub record Site (C : Type 0) : Type 0 where
   pub pay : C → Bool → ℕ
@@ -59,8 +59,8 @@ rowCost s (node v a b) c x = s v .pay c (x .0) + rowCost s a (s v .down c (x .0)
 abbrev pub favour : Bool → Bool → ℕ
 favour p u = cond (cond p u (not u)) 1 0
 
--- x comes before y in the order of ties, or is like y and the rest holds: at each node in turn the choice that counts more at
--- or below it comes first, then the one with the node's own choice p
+-- x comes before y in the order of ties, or is like y and `rest` holds: node by node, the choice that counts more at or below
+-- the node comes first, then the one with the node's own choice p
 abbrev pub Before : (ℕ → Bool → ℕ) → Bool → (r : Row) → Choice r → Choice r → Type 0 → Type 0
 Before w p empty x y rest = rest
 Before w p (node v a b) x y rest =

@@ -22,6 +22,6 @@ module _ (outside : ℕ → Bool) where
     unfoldable pub bestOfFew : ℕ → ℕ
     bestOfFew n = cond (leb (n % mostNodes) k) (best bothCounts p s r c n) cap
 
-    -- the choice taken of at most k members, of which at most q are outside
+    -- the choice of least cost with at most k members, of which at most q are outside
     abbrev pub chooseMoved : ℕ → Choice r
     chooseMoved q = choose bothCounts p s r c (firstLeast bestOfFew (k + mostNodes * q))

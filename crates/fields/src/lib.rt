@@ -46,7 +46,16 @@ impl Tree {
     const BUDGET_AT: usize = 7;
 
     pub const RECORD: usize = 10;
-    // parent, length, flow, hit
+
+    // which row of the table is which field
+    pub const PARENT_FIELD: usize = 0;
+
+    pub const LENGTH_FIELD: usize = 1;
+
+    pub const FLOW_FIELD: usize = 2;
+
+    pub const HIT_FIELD: usize = 3;
+
     pub const FIELDS: [Field; 4] = [
         Field {
             offset: 0,
@@ -150,7 +159,7 @@ pub fn parent_of(file: &[u8], v: usize) -> usize
     requires { ⌜ InFile (now file) v ⌝ }
     ensures { λ r. ⌜ r ≡ treeOf (now (file .entry)) .parent v ⌝ }
 {
-    field_of(file, 0, v) as usize
+    field_of(file, Tree::PARENT_FIELD, v) as usize
 }
 
 // The length of the link to the parent.
@@ -158,7 +167,7 @@ pub fn length_of(file: &[u8], v: usize) -> units::Distance
     requires { ⌜ InFile (now file) v ⌝ }
     ensures { λ r. ⌜ r .0 ≡ treeOf (now (file .entry)) .linkLength v ⌝ }
 {
-    units::Distance(field_of(file, 1, v))
+    units::Distance(field_of(file, Tree::LENGTH_FIELD, v))
 }
 
 // All that the client at v asks for.
@@ -166,7 +175,7 @@ pub fn flow_of(file: &[u8], v: usize) -> units::Flow
     requires { ⌜ InFile (now file) v ⌝ }
     ensures { λ r. ⌜ r .0 ≡ demandOf (now (file .entry)) .flow v * thousandths ⌝ }
 {
-    units::Flow(field_of(file, 2, v) * units::Flow::WHOLE)
+    units::Flow(field_of(file, Tree::FLOW_FIELD, v) * units::Flow::WHOLE)
 }
 
 // The part of it that a cache can serve.
@@ -174,5 +183,5 @@ pub fn cachable_of(file: &[u8], v: usize) -> units::Flow
     requires { ⌜ InFile (now file) v ⌝ }
     ensures { λ r. ⌜ r .0 ≡ demandOf (now (file .entry)) .flow v * demandOf (now (file .entry)) .hit v ⌝ }
 {
-    units::Flow(field_of(file, 2, v) * field_of(file, 3, v))
+    units::Flow(field_of(file, Tree::FLOW_FIELD, v) * field_of(file, Tree::HIT_FIELD, v))
 }

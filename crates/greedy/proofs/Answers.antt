@@ -17,34 +17,35 @@ use Rattle.fields.specs.declared.Tree as code
 use Rattle.tree_file.specs.Checks.{sizesOf}
 use Rattle.lent.specs.Lent.{lentVerdict}
 use Rattle.lent.proofs.Asked.{lent-told, refused-before-buffers, buffers-decide}
-use Rattle.greedy.specs.Run.{Granted, Ran}
+use Rattle.node_words.specs.Words.{nodeWords}
+use Rattle.greedy.specs.Run.{GreedyRoom, GreedyWritten}
 
 -- the words of the nodes are among those that rule 13 asks for
-pub nodes-fit : (file : List ℕ) → 4 * countOf file ≤ scratchWords file
+pub nodes-fit : (file : List ℕ) → nodeWords * countOf file ≤ scratchWords file
 unfolding scratchWords
 nodes-fit file = omega arith
 
 -- room in a scratch is room in one as long
-pub granted-still : {file : List ℕ} {n k : ℕ} {scratch scratch′ totals taken : List ℕ} → Granted file n k scratch totals taken
-    → length scratch′ ≡ length scratch → Granted file n k scratch′ totals taken
-granted-still g e =
+pub room-still : {file : List ℕ} {n k : ℕ} {scratch scratch′ totals nodes : List ℕ} → GreedyRoom file n k scratch totals nodes
+    → length scratch′ ≡ length scratch → GreedyRoom file n k scratch′ totals nodes
+room-still g e =
     record {
       room = record { accepted = g .room .accepted; count = g .room .count; room = rw e (g .room .room) };
       budget = g .budget;
       totalsLong = g .totalsLong;
-      takenLong = g .takenLong;
+      nodesLong = g .nodesLong;
     }
 
-module _ (file scratch totals taken : List ℕ) where
-  refused-whole : {q i : ℕ} → broken q i ≡ greedyVerdict file scratch totals taken
-      → GreedyCall file scratch totals taken (broken q i) scratch totals taken
+module _ (file scratch totals nodes : List ℕ) where
+  refused-whole : {q i : ℕ} → broken q i ≡ greedyVerdict file scratch totals nodes
+      → GreedyCall file scratch totals nodes (broken q i) scratch totals nodes
   refused-whole e = record { verdict = e; scratchAfter = refl; totalsAfter = refl; takenAfter = refl }
 
   -- the rules before rule 14 refuse
   pub greedy-refused : {q i : ℕ} → refused q i ≡ answer (lentVerdict file (length scratch)) (sizesOf file)
-      → GreedyCall file scratch totals taken (broken q i) scratch totals taken
+      → GreedyCall file scratch totals nodes (broken q i) scratch totals nodes
   unfolding greedyVerdict
-  greedy-refused e = refused-whole (refused-before-buffers file scratch (greedyBuffersLong file totals taken) e)
+  greedy-refused e = refused-whole (refused-before-buffers file scratch (greedyBuffersLong file totals nodes) e)
 
   module _ {sizes : code.Tree} (e : answered sizes ≡ answer (lentVerdict file (length scratch)) (sizesOf file)) where
     sizes-are : sizes ≡ sizesOf file
@@ -52,20 +53,20 @@ module _ (file scratch totals taken : List ℕ) where
 
     -- rule 14, as it is asked with the sizes found
     abbrev bothLong : Bool
-    bothLong = leb (suc (sizes .budget)) (length totals) && leb (sizes .budget) (length taken)
+    bothLong = leb (suc (sizes .budget)) (length totals) && leb (sizes .budget) (length nodes)
 
-    long-is : {b : Bool} → bothLong ≡ b → greedyBuffersLong file totals taken ≡ b
+    long-is : {b : Bool} → bothLong ≡ b → greedyBuffersLong file totals nodes ≡ b
     long-is h = rw sizes-are at h
 
-    pub greedy-short : bothLong ≡ false → GreedyCall file scratch totals taken (broken 14 0) scratch totals taken
+    pub greedy-short : bothLong ≡ false → GreedyCall file scratch totals nodes (broken 14 0) scratch totals nodes
     unfolding greedyVerdict
     greedy-short h = refused-whole (buffers-decide file scratch _ e (long-is h))
 
     module _ (h : bothLong ≡ true) where
-      pub greedy-granted : Granted file (sizes .nodes) (sizes .budget) scratch totals taken
-      greedy-granted =
+      pub greedy-room : GreedyRoom file (sizes .nodes) (sizes .budget) scratch totals nodes
+      greedy-room =
           let told = lent-told file e in
-          let fit = both (leb (suc (sizes .budget)) (length totals)) (leb (sizes .budget) (length taken)) h in
+          let fit = both (leb (suc (sizes .budget)) (length totals)) (leb (sizes .budget) (length nodes)) h in
           record {
             room = record {
               accepted = told .0;
@@ -74,18 +75,18 @@ module _ (file scratch totals taken : List ℕ) where
             };
             budget = ap (λ x. x .budget) sizes-are;
             totalsLong = rw (add-one (sizes .budget)) (leb-true _ _ (fit .0));
-            takenLong = leb-true (sizes .budget) (length taken) (fit .1);
+            nodesLong = leb-true (sizes .budget) (length nodes) (fit .1);
           }
 
       -- all rules hold
-      pub greedy-written : {scratch′ totals′ taken′ : List ℕ} → Ran file (sizes .nodes) scratch totals taken scratch′ totals′ taken′
-          → GreedyCall file scratch totals taken passed scratch′ totals′ taken′
+      pub greedy-written : {scratch′ totals′ nodes′ : List ℕ} → GreedyWritten file (sizes .nodes) scratch totals nodes scratch′ totals′ nodes′
+          → GreedyCall file scratch totals nodes passed scratch′ totals′ nodes′
       unfolding greedyVerdict
-      greedy-written ran =
+      greedy-written done =
           record {
             verdict = buffers-decide file scratch _ e (long-is h);
             scratchAfter =
-                (ran .front .long, front-only-past (4 * sizes .nodes) (scratchWords file) (rw sizes-are (nodes-fit file)) (ran .front));
-            totalsAfter = ran .totalsAfter;
-            takenAfter = ran .takenAfter;
+                (done .front .long, front-only-past (nodeWords * sizes .nodes) (scratchWords file) (rw sizes-are (nodes-fit file)) (done .front));
+            totalsAfter = done .totalsAfter;
+            takenAfter = done .nodesAfter;
           }

@@ -15,7 +15,7 @@ use Rattle.model.proofs.Bounds.{distance-bound}
 use Rattle.node_words.specs.Words.{distanceWord, wordOf}
 use Rattle.node_words.proofs.Words.{room-sound, room-some}
 use Rattle.greedy.specs.Savings.{mostReach, saving}
-use Rattle.greedy.specs.Words.{servedWord, reachWord, marked, savingWord, Current, Weighed}
+use Rattle.greedy.specs.Words.{servingDistanceWord, reachWord, markedSites, savingFrom, Current, Weighed}
 use Rattle.greedy.proofs.Reaches.{serving-distance-up, serving-distance-near}
 use Rattle.greedy.proofs.Gathered.{reach-bound}
 
@@ -32,26 +32,26 @@ saving-of-member t d pre k (suc i) h m =
     rw (serving-distance-up t pre k i, m, none) (omega arith)
 
 module _ {file : List ℕ} {n : ℕ} {s : List ℕ} (now : Current file n s) where
-  saving-held : (v : ℕ) → v < n → savingWord s v ≡ saving (treeOf file) (demandOf file) (marked n s) v
+  saving-held : (v : ℕ) → v < n → savingFrom s v ≡ saving (treeOf file) (demandOf file) (markedSites n s) v
   unfolding saving
-  saving-held v h = rw (now .served v h, now .reached v h, now .ready .distances v h) (mul-comm _ _)
+  saving-held v h = rw (now .served v h, now .reached v h, now .stored .distances v h) (mul-comm _ _)
 
   pub sites-weighed : Weighed n s
   sites-weighed =
-      let ok = room-sound (now .ready .room) in
+      let ok = room-sound (now .stored .room) in
       record {
-        some = room-some (now .ready .room);
-        room = now .ready .room .room;
-        near = λ v h. rw (now .served v h, now .ready .distances v h) (serving-distance-near (treeOf file) (ok .preorder) (marked n s) v);
+        some = room-some (now .stored .room);
+        room = now .stored .room .room;
+        near = λ v h. rw (now .served v h, now .stored .distances v h) (serving-distance-near (treeOf file) (ok .preorder) (markedSites n s) v);
         small = λ v h.
-            let flow : wordOf s v reachWord ≤ mostReach = rw (now .reached v h) (reach-bound (treeOf file) (demandOf file) ok (marked n s) v) in
-            let far : wordOf s v distanceWord - wordOf s v servedWord ≤ mostLength * mostDepth =
-            omega (arith, now .ready .distances v h, distance-bound (treeOf file) (demandOf file) ok v) in
+            let flow : wordOf s v reachWord ≤ mostReach = rw (now .reached v h) (reach-bound (treeOf file) (demandOf file) ok (markedSites n s) v) in
+            let far : wordOf s v distanceWord - wordOf s v servingDistanceWord ≤ mostLength * mostDepth =
+            omega (arith, now .stored .distances v h, distance-bound (treeOf file) (demandOf file) ok v) in
             omega (arith, mul-le-mul flow far);
       }
 
-  pub search-finds-site : {site most : ℕ} → FirstGreatest (λ _. false) (savingWord s) n site most
-      → FirstGreatest (has (marked n s)) (saving (treeOf file) (demandOf file) (marked n s)) n site most
+  pub search-finds-site : {site most : ℕ} → FirstGreatest (λ _. false) (savingFrom s) n site most
+      → FirstGreatest (has (markedSites n s)) (saving (treeOf file) (demandOf file) (markedSites n s)) n site most
   search-finds-site =
-      search-skips (has (marked n s)) (savingWord s) (saving (treeOf file) (demandOf file) (marked n s)) n _ _ (λ v _ h. saving-held v h)
-      (λ v h _ m. saving-of-member (treeOf file) (demandOf file) (room-sound (now .ready .room) .preorder) (marked n s) v h m)
+      search-skips (has (markedSites n s)) (savingFrom s) (saving (treeOf file) (demandOf file) (markedSites n s)) n _ _ (λ v _ h. saving-held v h)
+      (λ v h _ m. saving-of-member (treeOf file) (demandOf file) (room-sound (now .stored .room) .preorder) (markedSites n s) v h m)

@@ -18,7 +18,7 @@ use Rattle.model.proofs.Bounds.{total-bound}
 use Rattle.node_words.specs.Words.{distanceWord, wordOf}
 use Rattle.node_words.proofs.Words.{room-sound}
 use Rattle.greedy.specs.Savings.{servingDistance}
-use Rattle.greedy.specs.Words.{Ready}
+use Rattle.greedy.specs.Words.{DistancesStored}
 
 -- the server serves every client
 serving-of-none : (t : Tree) → Preorder t → (v : ℕ) → serving t [] v ≡ 0
@@ -37,7 +37,7 @@ cost-of-none t d ok c =
     rw (cost-is t (ok .preorder) [] d c, serving-of-none t (ok .preorder) c, distance-server t (ok .server), whole)
     (mul-assoc (d .flow c) thousandths (distance t c))
 
-module _ {file : List ℕ} {n : ℕ} {words : List ℕ} (ready : Ready file n words) where
+module _ {file : List ℕ} {n : ℕ} {words : List ℕ} (stored : DistancesStored file n words) where
   abbrev costs : ℕ → ℕ
   costs = cost (treeOf file) (demandOf file) []
 
@@ -51,7 +51,7 @@ module _ {file : List ℕ} {n : ℕ} {words : List ℕ} (ready : Ready file n wo
 
   module _ {v held f x : ℕ} (s : Summed v held) (below : v < n) (ef : f ≡ demandOf file .flow v * thousandths) (ex : x ≡ wordOf words v distanceWord) where
     cost-here : f * x ≡ costs v
-    cost-here = rw (ef, ex, ready .distances v below) (cost-of-none (treeOf file) (demandOf file) (room-sound (ready .room)) v)
+    cost-here = rw (ef, ex, stored .distances v below) (cost-of-none (treeOf file) (demandOf file) (room-sound (stored .room)) v)
 
     more : sum costs (range 0 (suc v)) ≡ held + f * x
     more = sum-snoc costs 0 v ∙ (rw (zero-add v, cost-here, s .1))
@@ -60,11 +60,11 @@ module _ {file : List ℕ} {n : ℕ} {words : List ℕ} (ready : Ready file n wo
     pub summed-small : held + f * x < 2 ^ 62
     unfolding total
     summed-small =
-        let ok = room-sound (ready .room) in
+        let ok = room-sound (stored .room) in
         omega (
           arith,
           more,
-          sum-fewer costs 0 (suc v) (treeOf file .count) (omega (arith, ready .room .count)),
+          sum-fewer costs 0 (suc v) (treeOf file .count) (omega (arith, stored .room .count)),
           total-bound (treeOf file) (demandOf file) ok [],
         )
 
@@ -74,5 +74,5 @@ module _ {file : List ℕ} {n : ℕ} {words : List ℕ} (ready : Ready file n wo
   pub summed-all : {v held : ℕ} → Summed v held → n ≤ v → held ≡ total (treeOf file) (demandOf file) []
   unfolding total
   summed-all {v} s h =
-      let whole : v ≡ treeOf file .count = omega (arith, ready .room .count) in
+      let whole : v ≡ treeOf file .count = omega (arith, stored .room .count) in
       s .1 ∙ ap (λ (m : ℕ). sum costs (range 0 m)) whole

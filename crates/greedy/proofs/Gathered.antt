@@ -97,7 +97,7 @@ module _ (t : Tree) (d : Demand) (pre : Preorder t) where
       ∙ sym (sum-those (reach t d []) (λ u. eqb x (t .parent u)) (sites t))
 
   -- what reaches a node is its own cachable flow and what reaches its children
-  pub reach-children : (x : ℕ) → x < t .count → reach t d [] x ≡ cachable d x + sum (reach t d []) (those (λ u. eqb x (t .parent u)) (sites t))
+  reach-children : (x : ℕ) → x < t .count → reach t d [] x ≡ cachable d x + sum (reach t d []) (those (λ u. eqb x (t .parent u)) (sites t))
   reach-children x h =
       let n = t .count - 1 in
       omega (
@@ -140,7 +140,7 @@ module _ (t : Tree) (d : Demand) (pre : Preorder t) where
       sym (gathered-other (suc i) x (omega arith) (λ e. omega (arith, parent-before t pre i))) ∙ gathered-all x i h (omega arith)
 
   -- and before that no more
-  pub gathered-within-reach : (x i : ℕ) → x < t .count → suc i ≤ t .count → gathered t d (suc i) x ≤ reach t d [] x
+  gathered-within-reach : (x i : ℕ) → x < t .count → suc i ≤ t .count → gathered t d (suc i) x ≤ reach t d [] x
   gathered-within-reach x zero h l = omega (arith, gathered-all x 0 h (omega arith))
   gathered-within-reach x (suc i) h l = omega (arith, gathered-turn (suc i) x l, gathered-within-reach x i h (omega arith))
 

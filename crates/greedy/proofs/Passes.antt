@@ -10,7 +10,7 @@ use Rattle.model.proofs.Routes.{parent-before}
 use Rattle.node_words.specs.Words.{wordAt, distanceWord, wordOf, NodeRoom, SiteRoom}
 use Rattle.node_words.proofs.Words.{room-sound, room-parent}
 use Rattle.greedy.specs.Savings.{cachable, mostReach, servingDistance, gathered}
-use Rattle.greedy.specs.Words.{servedWord, reachWord, markWord, marked, servedFrom, Wrote, Ready, PassedFrom, Passes, Gathers}
+use Rattle.greedy.specs.Words.{servingDistanceWord, reachWord, markWord, markedSites, servedFrom, Wrote, DistancesStored, PassedFrom, Passes, Gathers}
 use Rattle.greedy.proofs.Reaches.{serving-distance-up}
 use Rattle.greedy.proofs.Gathered.{gathered-none, gathered-parent, gathered-other, gathered-all, gathered-bound}
 use Rattle.greedy.proofs.Words.{wrote-nothing, wrote-none, wrote-at, wrote-then, has-marked}
@@ -103,18 +103,18 @@ module _ {file : List ℕ} {n : ℕ} {o s : List ℕ} (room : NodeRoom file n o)
 -- ---- serving distances
 
 -- a marked site's own distance, else its parent's serving distance
-pub served-site : {file : List ℕ} {n : ℕ} {s r : List ℕ} {v x : ℕ} → Ready file n s
-    → Wrote n servedWord (servingDistance (treeOf file) (marked n s)) v s r → 0 < v → v < n → x ≡ servedFrom (treeOf file) r v
-    → x ≡ servingDistance (treeOf file) (marked n s) v
-served-site {v = zero} ready wrote site below e = absurd (omega arith)
-served-site {file} {n} {s} {v = suc i} ready wrote site below e =
-    let pre = room-sound (ready .room) .preorder in
-    rw (serving-distance-up (treeOf file) pre (marked n s) i)
+pub served-site : {file : List ℕ} {n : ℕ} {s r : List ℕ} {v x : ℕ} → DistancesStored file n s
+    → Wrote n servingDistanceWord (servingDistance (treeOf file) (markedSites n s)) v s r → 0 < v → v < n → x ≡ servedFrom (treeOf file) r v
+    → x ≡ servingDistance (treeOf file) (markedSites n s) v
+served-site {v = zero} stored wrote site below e = absurd (omega arith)
+served-site {file} {n} {s} {v = suc i} stored wrote site below e =
+    let pre = room-sound (stored .room) .preorder in
+    rw (serving-distance-up (treeOf file) pre (markedSites n s) i)
     (rw (
       wrote .others (suc i) markWord (omega arith) (λ q. omega arith),
       ← has-marked n s (suc i) site below,
       wrote .others (suc i) distanceWord (omega arith) (λ q. omega arith),
-      ready .distances (suc i) below,
+      stored .distances (suc i) below,
       wrote .held (treeOf file .parent (suc i)) (omega (arith, parent-before (treeOf file) pre i)),
     )
     at e)

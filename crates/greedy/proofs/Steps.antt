@@ -16,7 +16,7 @@ use Rattle.greedy.proofs.Saved.{saving-is, total-after}
 
 module _ (t : Tree) (d : Demand) (pre : Preorder t) (hits : (c : ℕ) → d .hit c ≤ thousandths) (k : List ℕ) where
   -- the first of the nodes outside K that save most, and something, is taken
-  pub most-saving-taken : (x : ℕ) → 1 ≤ x → x < t .count → has k x ≡ false → 0 < saving t d k x
+  most-saving-taken : (x : ℕ) → 1 ≤ x → x < t .count → has k x ≡ false → 0 < saving t d k x
       → ((y : ℕ) → 1 ≤ y → y < t .count → has k y ≡ false → saving t d k y ≤ saving t d k x)
       → ((y : ℕ) → 1 ≤ y → y < x → has k y ≡ false → saving t d k y < saving t d k x) → Takes t d k x
   most-saving-taken x above below lacks saves most first =
@@ -29,7 +29,7 @@ module _ (t : Tree) (d : Demand) (pre : Preorder t) (hits : (c : ℕ) → d .hit
         smallest = λ u a b l. omega (arith, after x, after u, first u a b l);
       }
 
-  pub none-saving-rests : ((y : ℕ) → 1 ≤ y → y < t .count → has k y ≡ false → saving t d k y ≡ 0) → Rests t d k
+  none-saving-rests : ((y : ℕ) → 1 ≤ y → y < t .count → has k y ≡ false → saving t d k y ≡ 0) → Rests t d k
   none-saving-rests none = record { noneLowers = λ u a b l. omega (arith, saving-is t d pre hits k u, none u a b l) }
 
   -- ---- by a search over all sites

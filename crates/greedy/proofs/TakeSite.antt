@@ -16,10 +16,10 @@ use Rattle.model.specs.Preorder.{Preorder}
 use Rattle.node_words.specs.Words.{wordAt, wordOf, SiteRoom}
 use Rattle.node_words.proofs.Words.{room-sound, room-parent, room-kept}
 use Rattle.greedy.specs.Savings.{reaches, reach}
-use Rattle.greedy.specs.Words.{servedWord, reachWord, markWord, marked, Wrote, Ready, Current, Free, Relieves, ServedTo, Serves, Took}
+use Rattle.greedy.specs.Words.{servingDistanceWord, reachWord, markWord, markedSites, Wrote, DistancesStored, Current, Free, Relieves, ServedTo, Serves, SiteTaken}
 use Rattle.greedy.proofs.Reaches.{reaches-self, reaches-before}
 use Rattle.greedy.proofs.OneMore.{served-before, member-ends, parent-next, reach-same, reach-moves}
-use Rattle.greedy.proofs.Words.{wrote-nothing, wrote-none, wrote-at, marks-kept, has-marked, marked-more, ready-kept}
+use Rattle.greedy.proofs.Words.{wrote-nothing, wrote-none, wrote-at, marks-kept, has-marked, marked-more, stored-kept}
 
 -- ---- the nodes above
 
@@ -52,23 +52,23 @@ pub record Relieving (file : List ℕ) (n x : ℕ) (s r : List ℕ) (v : ℕ) : 
   pub site : 0 < x
   pub below : x < n
   pub upTo : v ≤ x
-  pub reached : reaches (treeOf file) (marked n s) v x ≡ true
-  pub left : Wrote n reachWord (leftAt (treeOf file) (demandOf file) (marked n s) x v) n s r
+  pub reached : reaches (treeOf file) (markedSites n s) v x ≡ true
+  pub left : Wrote n reachWord (leftAt (treeOf file) (demandOf file) (markedSites n s) x v) n s r
 
 pub relieve-begins : {file : List ℕ} {n x : ℕ} {s : List ℕ} → Current file n s → 0 < x → x < n → Relieving file n x s s x
 relieve-begins {file} {n} {x} {s} now site below =
     let t = treeOf file in
     let d = demandOf file in
-    let pre = room-sound (now .ready .room) .preorder in
+    let pre = room-sound (now .stored .room) .preorder in
     record {
       now = now;
       site = site;
       below = below;
       upTo = omega arith;
-      reached = reaches-self t pre (marked n s) x;
+      reached = reaches-self t pre (markedSites n s) x;
       left = wrote-nothing n reachWord _ (λ u h. now .reached u h
-          ∙ by-test (λ b. reach t d (marked n s) u ≡ cond b (reach t d (withNode x (marked n s)) u) (reach t d (marked n s) u)) (leb x u)
-          (λ e. kept-later t d pre (marked n s) x site u (leb-true x u e)) (λ _. refl));
+          ∙ by-test (λ b. reach t d (markedSites n s) u ≡ cond b (reach t d (withNode x (markedSites n s)) u) (reach t d (markedSites n s) u)) (leb x u)
+          (λ e. kept-later t d pre (markedSites n s) x site u (leb-true x u e)) (λ _. refl));
     }
 
 module _ {file : List ℕ} {n x : ℕ} {s r : List ℕ} {v : ℕ} (way : Relieving file n x s r v) where
@@ -80,16 +80,16 @@ module _ {file : List ℕ} {n x : ℕ} {s r : List ℕ} {v : ℕ} (way : Relievi
 
   -- the sites taken so far
   abbrev k : List ℕ
-  k = marked n s
+  k = markedSites n s
 
   pre : Preorder t
-  pre = room-sound (way .now .ready .room) .preorder
+  pre = room-sound (way .now .stored .room) .preorder
 
   mark-kept : wordOf r v markWord ≡ wordOf s v markWord
   mark-kept = way .left .others v markWord (omega arith) (λ e. omega arith)
 
   pub relieve-site : 0 < v → SiteRoom file n r v
-  relieve-site h = record { nodes = room-kept (way .now .ready .room) (way .left .front); site = h; below = omega (arith, way .upTo, way .below) }
+  relieve-site h = record { nodes = room-kept (way .now .stored .room) (way .left .front); site = h; below = omega (arith, way .upTo, way .below) }
 
   -- a marked site ends the way
   pub relieve-stops : 0 < v → wordOf r v markWord ≡ 1 → Relieves file n x s r
@@ -148,7 +148,7 @@ module _ {file : List ℕ} {n x : ℕ} {s r : List ℕ} {v : ℕ} (way : Relievi
           upTo = omega (arith, up-before, way .upTo);
           reached = up-reached;
           left = wrote-at n reachWord (leftAt t d k x up) up n y (omega arith) (omega (arith, up-before, way .upTo, way .below))
-              (way .now .ready .room .room) (way .left) el here
+              (way .now .stored .room .room) (way .left) el here
               (λ u l other. way .left .held u l ∙ elim (decLt u up) [
                 | yes b ↦ left-before t d k x v u (omega (arith, up-before)) ∙ sym (left-before t d k x up u b)
                 | no b ↦ elim (decLt u v) [
@@ -166,32 +166,32 @@ module _ {file : List ℕ} {n x : ℕ} {s r l : List ℕ} (now : Current file n 
     (el : l ≡ set r (wordAt x markWord) 1) where
   stored : Wrote n markWord (λ _. 1) 0 r l
   stored =
-      wrote-at n markWord (λ _. 1) x 0 1 (omega arith) (free .below) (omega (arith, now .ready .room .room, relieved .front .long))
+      wrote-at n markWord (λ _. 1) x 0 1 (omega arith) (free .below) (omega (arith, now .stored .room .room, relieved .front .long))
       (wrote-none n markWord (λ _. 1) r) el refl (λ u less. absurd (omega arith))
 
-  marks-more : marked n l ≡ withNode x (marked n s)
+  marks-more : markedSites n l ≡ withNode x (markedSites n s)
   marks-more =
       let same = marks-kept n (λ e. omega arith) relieved in
-      rw el (marked-more n r x (omega (arith, now .ready .room .room, relieved .front .long)) (free .below) (free .site) (rw same (free .outside)))
+      rw el (marked-more n r x (omega (arith, now .stored .room .room, relieved .front .long)) (free .below) (free .site) (rw same (free .outside)))
       ∙ ap (withNode x) same
 
-  pub marked-ready : Ready file n l
-  marked-ready = ready-kept (λ e. omega arith) (ready-kept (λ e. omega arith) (now .ready) relieved) stored
+  pub marked-distances : DistancesStored file n l
+  marked-distances = stored-kept (λ e. omega arith) (stored-kept (λ e. omega arith) (now .stored) relieved) stored
 
   -- the nodes before it are served as before
   pub marked-served : ServedTo file n x l
   marked-served u h =
-      rw (marks-more, served-before (treeOf file) (room-sound (now .ready .room) .preorder) (marked n s) x u h)
-      (stored .others u servedWord (omega arith) (λ e. omega arith)
-      ∙ relieved .others u servedWord (omega arith) (λ e. omega arith)
+      rw (marks-more, served-before (treeOf file) (room-sound (now .stored .room) .preorder) (markedSites n s) x u h)
+      (stored .others u servingDistanceWord (omega arith) (λ e. omega arith)
+      ∙ relieved .others u servingDistanceWord (omega arith) (λ e. omega arith)
       ∙ now .served u (omega (arith, free .below)))
 
-  pub site-taken : {w : List ℕ} → Serves file n l w → Took file n x s w
+  pub site-taken : {w : List ℕ} → Serves file n l w → SiteTaken file n x s w
   site-taken serves =
       let same = marks-kept n (λ e. omega arith) serves in
       record {
         current = record {
-          ready = ready-kept (λ e. omega arith) marked-ready serves;
+          stored = stored-kept (λ e. omega arith) marked-distances serves;
           served = λ u h. rw same (serves .held u h);
           reached = λ u h. rw (same, marks-more)
               (serves .others u reachWord (omega arith) (λ e. omega arith)

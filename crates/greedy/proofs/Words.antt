@@ -15,27 +15,27 @@ use Rattle.model.specs.Rules.{ascends}
 use Rattle.model.specs.Greedy.{withNode}
 use Rattle.model.proofs.Ascending.{ascends-range, ascends-those, same-members}
 use Rattle.model.proofs.WithNode.{ascends-with-node, has-with-node}
-use Rattle.node_words.specs.Words.{wordAt, distanceWord, wordOf}
+use Rattle.node_words.specs.Words.{nodeWords, wordAt, distanceWord, wordOf}
 use Rattle.node_words.proofs.Words.{room-kept, word-same, other-node, other-word}
-use Rattle.greedy.specs.Words.{markWord, marked, Wrote, Ready}
+use Rattle.greedy.specs.Words.{markWord, markedSites, Wrote, DistancesStored}
 
 -- ---- words of one kind
 
 module _ (n f : ℕ) (a : ℕ → ℕ) where
   -- nothing, where the words are as they shall be
   pub wrote-nothing : {s : List ℕ} {v : ℕ} → ((u : ℕ) → u < v → wordOf s u f ≡ a u) → Wrote n f a v s s
-  wrote-nothing {s} held = record { front = front-only-none (4 * n) s; others = λ u g _ _. refl; held = held }
+  wrote-nothing {s} held = record { front = front-only-none (nodeWords * n) s; others = λ u g _ _. refl; held = held }
 
   pub wrote-none : (s : List ℕ) → Wrote n f a 0 s s
   wrote-none s = wrote-nothing (λ u h. absurd (omega arith))
 
   -- a store of one word more, where the words of the nodes before it are as they shall be
-  pub wrote-at : {s r l : List ℕ} {b : ℕ → ℕ} {m : ℕ} (v w x : ℕ) → f < 4 → v < n → 4 * n ≤ length s → Wrote n f b m s r
+  pub wrote-at : {s r l : List ℕ} {b : ℕ → ℕ} {m : ℕ} (v w x : ℕ) → f < nodeWords → v < n → nodeWords * n ≤ length s → Wrote n f b m s r
       → l ≡ set r (wordAt v f) x → x ≡ a v → ((u : ℕ) → u < w → (u ≡ v → ⊥) → wordOf r u f ≡ a u) → Wrote n f a w s l
   wrote-at {r = r} v w x k h room wrote el ex rest =
       rw el
       (record {
-        front = front-only-set (4 * n) (wordAt v f) x (omega arith) (wrote .front);
+        front = front-only-set (nodeWords * n) (wordAt v f) x (omega arith) (wrote .front);
         others = λ u g l q. other-word r v f x u g q k l ∙ wrote .others u g l q;
         held = λ u l. elim (ℕ-discrete u v) [
           | yes e ↦ rw e (word-same r v f x k (omega (arith, wrote .front .long)) ∙ ex)
@@ -43,7 +43,7 @@ module _ (n f : ℕ) (a : ℕ → ℕ) where
         ];
       })
 
-  pub wrote-next : {s r l : List ℕ} {v x : ℕ} → f < 4 → v < n → 4 * n ≤ length s → Wrote n f a v s r → l ≡ set r (wordAt v f) x → x ≡ a v
+  pub wrote-next : {s r l : List ℕ} {v x : ℕ} → f < nodeWords → v < n → nodeWords * n ≤ length s → Wrote n f a v s r → l ≡ set r (wordAt v f) x → x ≡ a v
       → Wrote n f a (v + 1) s l
   wrote-next {v = v} {x = x} k h room wrote el ex =
       wrote-at v (v + 1) x k h room wrote el ex (λ u l e. wrote .held u (omega arith))
@@ -51,7 +51,7 @@ module _ (n f : ℕ) (a : ℕ → ℕ) where
   pub wrote-then : {s r l : List ℕ} {b : ℕ → ℕ} {m v : ℕ} → Wrote n f b m s r → Wrote n f a v r l → Wrote n f a v s l
   wrote-then first second =
       record {
-        front = front-only-then (4 * n) (first .front) (second .front);
+        front = front-only-then (nodeWords * n) (first .front) (second .front);
         others = λ u g l q. second .others u g l q ∙ first .others u g l q;
         held = second .held;
       }
@@ -60,29 +60,29 @@ module _ (n f : ℕ) (a : ℕ → ℕ) where
 
 module _ (n : ℕ) where
   -- they stay where words of another kind are written
-  pub marks-kept : {f v : ℕ} {a : ℕ → ℕ} {s r : List ℕ} → (markWord ≡ f → ⊥) → Wrote n f a v s r → marked n r ≡ marked n s
-  unfolding marked
+  pub marks-kept : {f v : ℕ} {a : ℕ → ℕ} {s r : List ℕ} → (markWord ≡ f → ⊥) → Wrote n f a v s r → markedSites n r ≡ markedSites n s
+  unfolding markedSites
   marks-kept q wrote = λ i. those (λ u. eqb (wrote .others u markWord (omega arith) q i) 1) (range 1 (n - 1))
 
-  pub has-marked : (s : List ℕ) (v : ℕ) → 1 ≤ v → v < n → has (marked n s) v ≡ eqb (wordOf s v markWord) 1
-  unfolding marked
+  pub has-marked : (s : List ℕ) (v : ℕ) → 1 ≤ v → v < n → has (markedSites n s) v ≡ eqb (wordOf s v markWord) 1
+  unfolding markedSites
   has-marked s v h k = rw (has-those, in-range 1 (n - 1) v h (omega arith)) (and-true _)
 
-  marked-is-set : (s : List ℕ) → ascends 0 n (marked n s) ≡ true
-  unfolding marked
+  marked-is-set : (s : List ℕ) → ascends 0 n (markedSites n s) ≡ true
+  unfolding markedSites
   marked-is-set s = ascends-those n _ 0 (range 1 (n - 1)) (ascends-range n 0 (n - 1) (omega arith))
 
   -- where every mark is 0
-  pub marked-none : (s : List ℕ) → ((v : ℕ) → v < n → wordOf s v markWord ≡ 0) → marked n s ≡ []
+  pub marked-none : (s : List ℕ) → ((v : ℕ) → v < n → wordOf s v markWord ≡ 0) → markedSites n s ≡ []
   unfolding ascends has
   marked-none s zeros =
-      same-members n 0 (marked n s) [] (marked-is-set s) refl (λ v h k. has-marked s v h k ∙ ap (λ (x : ℕ). eqb x 1) (zeros v k))
+      same-members n 0 (markedSites n s) [] (marked-is-set s) refl (λ v h k. has-marked s v h k ∙ ap (λ (x : ℕ). eqb x 1) (zeros v k))
 
-  module _ (s : List ℕ) (x : ℕ) (room : 4 * n ≤ length s) (below : x < n) where
+  module _ (s : List ℕ) (x : ℕ) (room : nodeWords * n ≤ length s) (below : x < n) where
     abbrev more : List ℕ
     more = set s (wordAt x markWord) 1
 
-    has-more : (v : ℕ) → 0 < v → v < n → has (marked n more) v ≡ (eqb x v || has (marked n s) v)
+    has-more : (v : ℕ) → 0 < v → v < n → has (markedSites n more) v ≡ (eqb x v || has (markedSites n s) v)
     has-more v h k =
         rw (has-marked more v h k)
         (elim (ℕ-discrete v x) [
@@ -91,18 +91,18 @@ module _ (n : ℕ) where
         ])
 
     -- one site more
-    pub marked-more : 1 ≤ x → has (marked n s) x ≡ false → marked n more ≡ withNode x (marked n s)
+    pub marked-more : 1 ≤ x → has (markedSites n s) x ≡ false → markedSites n more ≡ withNode x (markedSites n s)
     marked-more site lacks =
-        same-members n 0 (marked n more) (withNode x (marked n s)) (marked-is-set more)
-        (ascends-with-node n 0 x (marked n s) site below lacks (marked-is-set s))
-        (λ v h k. has-more v h k ∙ sym (has-with-node x v (marked n s)))
+        same-members n 0 (markedSites n more) (withNode x (markedSites n s)) (marked-is-set more)
+        (ascends-with-node n 0 x (markedSites n s) site below lacks (marked-is-set s))
+        (λ v h k. has-more v h k ∙ sym (has-with-node x v (markedSites n s)))
 
 -- ---- the distances
 
 -- they stay where words of another kind are written
-pub ready-kept : {file : List ℕ} {n f v : ℕ} {a : ℕ → ℕ} {s r : List ℕ} → (distanceWord ≡ f → ⊥) → Ready file n s → Wrote n f a v s r → Ready file n r
-ready-kept q ready wrote =
+pub stored-kept : {file : List ℕ} {n f v : ℕ} {a : ℕ → ℕ} {s r : List ℕ} → (distanceWord ≡ f → ⊥) → DistancesStored file n s → Wrote n f a v s r → DistancesStored file n r
+stored-kept q stored wrote =
     record {
-      room = room-kept (ready .room) (wrote .front);
-      distances = λ u h. wrote .others u distanceWord (omega arith) q ∙ ready .distances u h;
+      room = room-kept (stored .room) (wrote .front);
+      distances = λ u h. wrote .others u distanceWord (omega arith) q ∙ stored .distances u h;
     }

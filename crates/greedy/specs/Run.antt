@@ -1,4 +1,4 @@
--- What a run of the greedy rule is lent, and what it leaves.
+-- What a run of the greedy rule needs, and what it leaves.
 use mathlib.Core.Path.{_≡_}
 use mathlib.Core.List.{List, map}
 use Prim.Native.Nat.{ℕ, _+_, _*_, _-_, _≤_}
@@ -9,22 +9,22 @@ use Rattle.laws.specs.Fronts.{FrontOnly}
 use Rattle.model.specs.File.{budgetOf}
 use Rattle.model.specs.Rules.{passed}
 use Rattle.model.specs.Calls.{after, greedyTotals, greedyRow}
-use Rattle.node_words.specs.Words.{NodeRoom}
+use Rattle.node_words.specs.Words.{nodeWords, NodeRoom}
 
 -- an accepted file of n nodes and budget k, and room for all that is written
-pub record Granted (file : List ℕ) (n k : ℕ) (words totals taken : List ℕ) : Type 0 where
+pub record GreedyRoom (file : List ℕ) (n k : ℕ) (words totals nodes : List ℕ) : Type 0 where
   pub room : NodeRoom file n words
   pub budget : k ≡ budgetOf file
   pub totalsLong : k + 1 ≤ length totals
-  pub takenLong : k ≤ length taken
+  pub nodesLong : k ≤ length nodes
 
 -- from step b on every total is `sum`, and no node is taken
-pub record Filled (b k sum : ℕ) (totals taken totals′ taken′ : List ℕ) : Type 0 where
+pub record Filled (b k sum : ℕ) (totals nodes totals′ nodes′ : List ℕ) : Type 0 where
   pub totalsFilled : totals′ ≡ sets totals (b + 1) (map (λ _. sum) (range 0 (k - b)))
-  pub takenFilled : taken′ ≡ sets taken b (map (λ _. 0) (range 0 (k - b)))
+  pub nodesFilled : nodes′ ≡ sets nodes b (map (λ _. 0) (range 0 (k - b)))
 
 -- the greedy rule's totals and nodes stand in their buffers, and of the scratch only the words of the nodes were used
-pub record Ran (file : List ℕ) (n : ℕ) (words totals taken words′ totals′ taken′ : List ℕ) : Type 0 where
-  pub front : FrontOnly (4 * n) words words′
+pub record GreedyWritten (file : List ℕ) (n : ℕ) (words totals nodes words′ totals′ nodes′ : List ℕ) : Type 0 where
+  pub front : FrontOnly (nodeWords * n) words words′
   pub totalsAfter : totals′ ≡ after passed (greedyTotals file) totals
-  pub takenAfter : taken′ ≡ after passed (greedyRow file) taken
+  pub nodesAfter : nodes′ ≡ after passed (greedyRow file) nodes

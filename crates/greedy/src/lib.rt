@@ -1,4 +1,4 @@
-// The greedy rule: each step takes the site where a cache saves most, and changes only the words that this site changes.
+// The greedy rule: each step takes the node where a cache saves most, and updates only the words that this cache changes.
 use tree_file::Checked;
 use tree_file::Ruling;
 use units::Distance;
@@ -16,19 +16,20 @@ ghost use Rattle.model.specs.Bill.{total};
 ghost use Rattle.model.specs.Calls.{GreedyCall};
 ghost use Rattle.fields.specs.Table.{InFile};
 ghost use Rattle.tree_file.specs.Checks.{verdictOf};
-ghost use Rattle.node_words.specs.Words.{distanceWord, wordOf, HasNode, NodeRoom, SiteRoom};
+ghost use Rattle.node_words.specs.Words.{nodeWords, distanceWord, wordOf, HasNode, NodeRoom, SiteRoom};
 ghost use Rattle.greedy.specs.Savings.{cachable};
-ghost use Rattle.greedy.specs.Words.{servedWord, reachWord, marked, savingWord, servedFrom, Wrote, Ready, Current, Free, ServedTo, Serves, PassedFrom, Passes, Gathers, Relieves, Took, Weighed, Prepared};
-ghost use Rattle.greedy.specs.Run.{Granted, Filled, Ran};
+ghost use Rattle.greedy.specs.Words.{servingDistanceWord, reachWord, markedSites, savingFrom, servedFrom, Wrote, DistancesStored, Current, Free, ServedTo, Serves, PassedFrom, Passes, Gathers, Relieves, SiteTaken, Weighed, Prepared};
+ghost use Rattle.greedy.specs.Run.{GreedyRoom, Filled, GreedyWritten};
 
-// Of each node, beside its distance: that of its serving node, the flow that reaches it, and 1 where it is taken.
-const SERVED: usize = 1;
+// Which word of a node is which, besides its distance (word 0): the distance of its serving node, the cachable flow that reaches
+// it, and a mark, 1 where the node is taken.
+const SERVING_DISTANCE: usize = 1;
 
 const REACH: usize = 2;
 
 const MARK: usize = 3;
 
-// What a step finds: the site that saves most and what it saves, both 0 where none saves.
+// What a step finds: the node that saves most as a cache and how much it saves, both 0 if none saves.
 struct Found {
     site: usize,
     saving: Total,
@@ -38,7 +39,7 @@ struct Found {
 
 // The total without any cache.
 fn empty_total(file: &[u8], n: usize, words: &[u64]) -> Total
-    requires { ⌜ Ready (now file) n (now words) ⌝ }
+    requires { ⌜ DistancesStored (now file) n (now words) ⌝ }
     ensures { λ r. ⌜ r .0 ≡ total (treeOf (now (file .entry))) (demandOf (now (file .entry))) [] ⌝ }
 {
     let mut sum = Total::ZERO;
@@ -51,9 +52,9 @@ fn empty_total(file: &[u8], n: usize, words: &[u64]) -> Total
     sum
 }
 
-// Word `f` of each node is 0.
+// Stores 0 in word `f` of each node.
 fn clear(n: usize, f: usize, words: &mut [u64])
-    requires { ⌜ (f < 4) × (4 * n ≤ length (now words)) ⌝ }
+    requires { ⌜ (f < nodeWords) × (nodeWords * n ≤ length (now words)) ⌝ }
     ensures { λ _. ⌜ Wrote n f (λ _. 0) n (now (words .entry)) (now (words .exit)) ⌝ }
 {
     let mut v = 0;
@@ -63,7 +64,7 @@ fn clear(n: usize, f: usize, words: &mut [u64])
     }
 }
 
-// The cachable flow of each node's own client.
+// Stores the cachable flow of each node's own client.
 fn own_flows(file: &[u8], n: usize, words: &mut [u64])
     requires { ⌜ NodeRoom (now file) n (now words) ⌝ }
     ensures { λ _. ⌜ Wrote n reachWord (cachable (demandOf (now (file .entry)))) n (now (words .entry)) (now (words .exit)) ⌝ }
@@ -75,7 +76,7 @@ fn own_flows(file: &[u8], n: usize, words: &mut [u64])
     }
 }
 
-// What reaches site `v` reaches its parent too.
+// Adds the flow that reaches node `v` to that of its parent.
 fn pass_on(file: &[u8], n: usize, words: &mut [u64], v: usize)
     requires { ⌜ SiteRoom (now file) n (now words) v ⌝ }
     requires { ⌜ PassedFrom (now file) n (v + 1) (now words) ⌝ }
@@ -87,7 +88,7 @@ fn pass_on(file: &[u8], n: usize, words: &mut [u64], v: usize)
     node_words::put(words, up, REACH, reach.0);
 }
 
-// The flow that reaches each node where no site is taken, from the last node up.
+// Stores the flow that reaches each node where no node is taken, from the last node to the first.
 fn gather(file: &[u8], n: usize, words: &mut [u64])
     requires { ⌜ NodeRoom (now file) n (now words) ⌝ }
     ensures { λ _. ⌜ Gathers (now (file .entry)) n (now (words .entry)) (now (words .exit)) ⌝ }
@@ -100,34 +101,34 @@ fn gather(file: &[u8], n: usize, words: &mut [u64])
     }
 }
 
-// The words of each node where no site is taken.
+// Stores the words of each node where no node is taken.
 fn prepare(file: &[u8], n: usize, words: &mut [u64])
     requires { ⌜ NodeRoom (now file) n (now words) ⌝ }
     ensures { λ _. ⌜ Prepared (now (file .entry)) n (now (words .entry)) (now (words .exit)) ⌝ }
 {
     node_words::measure(file, n, words);
-    clear(n, SERVED, words);
+    clear(n, SERVING_DISTANCE, words);
     clear(n, MARK, words);
     gather(file, n, words);
 }
 
-// ---- the site that saves most
+// ---- the node that saves most
 
 // What a cache at `v` would save.
 fn saving_of(words: &[u64], v: usize) -> Total
     requires { ⌜ HasNode (now words) v ⌝ }
-    requires { ⌜ (wordOf (now words) v servedWord ≤ wordOf (now words) v distanceWord) × (savingWord (now words) v < 2 ^ 64) ⌝ }
-    ensures { λ r. ⌜ r .0 ≡ savingWord (now (words .entry)) v ⌝ }
+    requires { ⌜ (wordOf (now words) v servingDistanceWord ≤ wordOf (now words) v distanceWord) × (savingFrom (now words) v < 2 ^ 64) ⌝ }
+    ensures { λ r. ⌜ r .0 ≡ savingFrom (now (words .entry)) v ⌝ }
 {
-    let served = Distance(node_words::word(words, v, SERVED));
+    let served = Distance(node_words::word(words, v, SERVING_DISTANCE));
     let nearer = node_words::distance_of(words, v).beyond(served);
     Flow(node_words::word(words, v, REACH)).over(nearer)
 }
 
-// The site that saves most, the smallest number on a tie.
+// The node that saves most, the smallest number on a tie.
 fn search(n: usize, words: &[u64]) -> Found
     requires { ⌜ Weighed n (now words) ⌝ }
-    ensures { λ r. ⌜ FirstGreatest (λ _. false) (savingWord (now (words .entry))) n (r .site) (r .saving .0) ⌝ }
+    ensures { λ r. ⌜ FirstGreatest (λ _. false) (savingFrom (now (words .entry))) n (r .site) (r .saving .0) ⌝ }
 {
     let mut site = 0;
     let mut most = Total::ZERO;
@@ -143,9 +144,9 @@ fn search(n: usize, words: &[u64]) -> Found
     Found { site, saving: most }
 }
 
-// ---- a site taken
+// ---- a node is taken
 
-// What reaches site `x` goes no farther: it leaves the nodes above, up to the next cache.
+// With a cache at `x` its flow goes no farther up: takes it off the nodes above, up to the next cache.
 fn relieve(file: &[u8], n: usize, words: &mut [u64], x: usize)
     requires { ⌜ Current (now file) n (now words) × (0 < x) × (x < n) ⌝ }
     ensures { λ _. ⌜ Relieves (now (file .entry)) n x (now (words .entry)) (now (words .exit)) ⌝ }
@@ -163,6 +164,7 @@ fn relieve(file: &[u8], n: usize, words: &mut [u64], x: usize)
     }
 }
 
+// The distance of the serving node of `v`: its own distance if it is marked, else that of its parent's serving node.
 fn served_at(file: &[u8], words: &[u64], v: usize) -> Distance
     requires { ⌜ InFile (now file) v ⌝ }
     requires { ⌜ HasNode (now words) v × HasNode (now words) (treeOf (now file) .parent v) ⌝ }
@@ -171,27 +173,27 @@ fn served_at(file: &[u8], words: &[u64], v: usize) -> Distance
     if node_words::word(words, v, MARK) == 1 {
         return node_words::distance_of(words, v);
     }
-    Distance(node_words::word(words, fields::parent_of(file, v), SERVED))
+    Distance(node_words::word(words, fields::parent_of(file, v), SERVING_DISTANCE))
 }
 
-// Serving distances from node `x` on: a marked node's own distance, else its parent's serving distance.
+// Stores the distance of the serving node of each node from `x` on.
 fn serve(file: &[u8], n: usize, words: &mut [u64], x: usize)
-    requires { ⌜ Ready (now file) n (now words) × (0 < x) × (x < n) ⌝ }
+    requires { ⌜ DistancesStored (now file) n (now words) × (0 < x) × (x < n) ⌝ }
     requires { ⌜ ServedTo (now file) n x (now words) ⌝ }
     ensures { λ _. ⌜ Serves (now (file .entry)) n (now (words .entry)) (now (words .exit)) ⌝ }
 {
     let mut v = x;
     while v < n {
         let distance = served_at(file, words, v);
-        node_words::put(words, v, SERVED, distance.0);
+        node_words::put(words, v, SERVING_DISTANCE, distance.0);
         v += 1;
     }
 }
 
-// Site `x` is taken: less flow reaches the nodes above it, and nodes after it may be served nearer.
+// Takes node `x`: less flow reaches the nodes above it, and nodes after it may have a nearer serving node.
 fn take_site(file: &[u8], n: usize, words: &mut [u64], x: usize)
     requires { ⌜ Current (now file) n (now words) × Free n x (now words) ⌝ }
-    ensures { λ _. ⌜ Took (now (file .entry)) n x (now (words .entry)) (now (words .exit)) ⌝ }
+    ensures { λ _. ⌜ SiteTaken (now (file .entry)) n x (now (words .entry)) (now (words .exit)) ⌝ }
 {
     relieve(file, n, words, x);
     node_words::put(words, x, MARK, 1);
@@ -200,31 +202,31 @@ fn take_site(file: &[u8], n: usize, words: &mut [u64], x: usize)
 
 // ---- the run
 
-// The steps from step `b` on, where none saves: the total stays, and no node is taken.
-fn rest(b: usize, k: usize, total: Total, totals: &mut [u64], taken: &mut [u16])
-    requires { ⌜ (b ≤ k) × (k ≤ mostBudget) × (k + 1 ≤ length (now totals)) × (k ≤ length (now taken)) ⌝ }
-    ensures { λ _. ⌜ Filled b k (total .0) (now (totals .entry)) (now (taken .entry)) (now (totals .exit)) (now (taken .exit)) ⌝ }
+// Writes the steps from step `b` on if no node saves: the same total, and node 0 for "none".
+fn rest(b: usize, k: usize, total: Total, totals: &mut [u64], nodes: &mut [u16])
+    requires { ⌜ (b ≤ k) × (k ≤ mostBudget) × (k + 1 ≤ length (now totals)) × (k ≤ length (now nodes)) ⌝ }
+    ensures { λ _. ⌜ Filled b k (total .0) (now (totals .entry)) (now (nodes .entry)) (now (totals .exit)) (now (nodes .exit)) ⌝ }
 {
     let mut j = b;
     while j < k {
-        taken[j] = 0;
+        nodes[j] = 0;
         totals[j + 1] = total.0;
         j += 1;
     }
 }
 
-// Each of k steps takes the site that saves most. Where none saves, none will in a later step.
+// Each of k steps takes the node that saves most. If none saves, none will in a later step.
 fn take_sites(
     file: &[u8],
     n: usize,
     k: usize,
     words: &mut [u64],
     totals: &mut [u64],
-    taken: &mut [u16],
+    nodes: &mut [u16],
 )
-    requires { ⌜ Granted (now file) n k (now words) (now totals) (now taken) ⌝ }
-    requires { ⌜ Current (now file) n (now words) × (marked n (now words) ≡ []) ⌝ }
-    ensures { λ _. ⌜ Ran (now (file .entry)) n (now (words .entry)) (now (totals .entry)) (now (taken .entry)) (now (words .exit)) (now (totals .exit)) (now (taken .exit)) ⌝ }
+    requires { ⌜ GreedyRoom (now file) n k (now words) (now totals) (now nodes) ⌝ }
+    requires { ⌜ Current (now file) n (now words) × (markedSites n (now words) ≡ []) ⌝ }
+    ensures { λ _. ⌜ GreedyWritten (now (file .entry)) n (now (words .entry)) (now (totals .entry)) (now (nodes .entry)) (now (words .exit)) (now (totals .exit)) (now (nodes .exit)) ⌝ }
 {
     let mut total = empty_total(file, n, words);
     totals[0] = total.0;
@@ -232,11 +234,11 @@ fn take_sites(
     while b < k {
         let found = search(n, words);
         if found.saving.0 == 0 {
-            rest(b, k, total, totals, taken);
+            rest(b, k, total, totals, nodes);
             return;
         }
         take_site(file, n, words, found.site);
-        taken[b] = found.site as u16;
+        nodes[b] = found.site as u16;
         total = total.without(found.saving);
         totals[b + 1] = total.0;
         b += 1;
@@ -250,39 +252,39 @@ pub fn run(
     k: usize,
     words: &mut [u64],
     totals: &mut [u64],
-    taken: &mut [u16],
+    nodes: &mut [u16],
 )
-    requires { ⌜ Granted (now file) n k (now words) (now totals) (now taken) ⌝ }
-    ensures { λ _. ⌜ Ran (now (file .entry)) n (now (words .entry)) (now (totals .entry)) (now (taken .entry)) (now (words .exit)) (now (totals .exit)) (now (taken .exit)) ⌝ }
+    requires { ⌜ GreedyRoom (now file) n k (now words) (now totals) (now nodes) ⌝ }
+    ensures { λ _. ⌜ GreedyWritten (now (file .entry)) n (now (words .entry)) (now (totals .entry)) (now (nodes .entry)) (now (words .exit)) (now (totals .exit)) (now (nodes .exit)) ⌝ }
 {
     prepare(file, n, words);
-    take_sites(file, n, k, words, totals, taken);
+    take_sites(file, n, k, words, totals, nodes);
 }
 
 // ---- the call
 
 // Rule 14: k + 1 totals, and k nodes.
-pub fn buffers_long(k: usize, totals: usize, taken: usize) -> bool
+pub fn buffers_long(k: usize, totals: usize, nodes: usize) -> bool
     requires { ⌜ k ≤ mostBudget ⌝ }
-    ensures { λ r. ⌜ r ≡ (leb (suc k) totals && leb k taken) ⌝ }
+    ensures { λ r. ⌜ r ≡ (leb (suc k) totals && leb k nodes) ⌝ }
 {
     if totals < k + 1 {
         return false;
     }
-    k <= taken
+    k <= nodes
 }
 
 // Rules 1 to 11, 13 and 14, then the greedy rule; nothing is written before they all hold.
-pub fn greedy(file: &[u8], scratch: &mut [u64], totals: &mut [u64], taken: &mut [u16]) -> Ruling
-    ensures { λ r. ⌜ GreedyCall (now (file .entry)) (now (scratch .entry)) (now (totals .entry)) (now (taken .entry)) (verdictOf r) (now (scratch .exit)) (now (totals .exit)) (now (taken .exit)) ⌝ }
+pub fn greedy(file: &[u8], scratch: &mut [u64], totals: &mut [u64], nodes: &mut [u16]) -> Ruling
+    ensures { λ r. ⌜ GreedyCall (now (file .entry)) (now (scratch .entry)) (now (totals .entry)) (now (nodes .entry)) (verdictOf r) (now (scratch .exit)) (now (totals .exit)) (now (nodes .exit)) ⌝ }
 {
     let checked = lent::check(file, scratch.len());
     match checked {
         Checked::Accepted(tree) => {
-            if !buffers_long(tree.budget, totals.len(), taken.len()) {
+            if !buffers_long(tree.budget, totals.len(), nodes.len()) {
                 return Ruling::Broken(14, 0);
             }
-            run(file, tree.nodes, tree.budget, scratch, totals, taken);
+            run(file, tree.nodes, tree.budget, scratch, totals, nodes);
             Ruling::Passed
         }
         Checked::Refused(q, record) => Ruling::Broken(q, record),

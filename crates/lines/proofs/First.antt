@@ -1,4 +1,4 @@
--- Laws of the first of the least: of two functions that agree, and of a loop that looks for it.
+-- Laws of the smallest index with the least value: of two functions that agree, and of a loop that looks for it.
 use mathlib.Core.Path.{_≡_, refl, sym, ap, _∙_}
 use mathlib.Core.Bool.{Bool, true, false}
 use Prim.Native.Nat.{ℕ, zero, suc, _+_, _≤_, _<_}
@@ -22,7 +22,7 @@ first-least-same f g (suc n) h =
 -- ---- a loop
 
 module _ (f : ℕ → ℕ) where
-  -- of `start` to r − 1, f is least at `first` first, and it is `least` there
+  -- of the indexes `start` to r − 1, `first` is the smallest at which f is least, and `least` is the value there
   pub record FirstFrom (start r first least : ℕ) : Type 0 where
     pub inside : (start ≤ first) × (first < r)
     pub wins : (i : ℕ) → start ≤ i → i < r → NoLaterBy f first i
@@ -67,7 +67,7 @@ module _ (f : ℕ → ℕ) where
   wins-both : {i j : ℕ} → NoLaterBy f i j → NoLaterBy f j i → i ≡ j
   wins-both {i} {j} p q = let same : f i ≡ f j = omega arith in omega (arith, p .1 same, q .1 (sym same))
 
-  -- before the start there is none so small
+  -- where every value before the start is larger
   pub first-ends : {start r first least : ℕ} (n : ℕ) → FirstFrom start r first least → r ≡ n + 1
       → ((i : ℕ) → i < start → f (firstLeast f n) < f i) → first ≡ firstLeast f n
   first-ends {start} {r} {first} n so-far e above =

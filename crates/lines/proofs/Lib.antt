@@ -1,6 +1,6 @@
-pub mod Low
+pub mod RunningMin
 pub mod Fewer
 pub mod Node
 pub mod Row
 pub mod First
-pub mod Known
+pub mod HeldBest

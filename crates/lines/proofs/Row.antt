@@ -1,4 +1,4 @@
--- Laws of a row's line: the loop over the counts that have a choice finds the least of all splits.
+-- Laws of a row's line: the loop over the counts that fit finds the least of all splits.
 use mathlib.Core.Path.{_≡_, refl, sym, _∙_}
 use mathlib.Core.List.{List, map}
 use mathlib.Core.Logic.{inl, inr, ⊎-elim, ⊎-map}
@@ -13,14 +13,14 @@ use Rattle.laws.proofs.Lists.{length-of-range}
 use Rattle.laws.proofs.Stores.{entry-after}
 use Rattle.laws.proofs.FrontValues.{same-on-range, front-is-entries}
 use Rattle.laws.proofs.Ranges.{entry-stored}
-use Rattle.best_rows.specs.Least.{low}
-use Rattle.best_rows.specs.Best.{cap, split, cell}
-use Rattle.best_rows.proofs.Least.{low-is}
-use Rattle.lines.specs.Line.{mostWidth, NoneFrom, LineParts, RowBounds, ownEnd, restEnd, RowParts, lineNode, lineSplit, lineCell, rowSplit, rowCell, Cleared, Lowered}
+use Rattle.best_rows.specs.Least.{runningMin}
+use Rattle.best_rows.specs.Best.{cap, split, rowBest}
+use Rattle.best_rows.proofs.Least.{running-min-is}
+use Rattle.lines.specs.Line.{mostWidth, NoFitFrom, LineParts, RowBounds, ownEnd, restEnd, RowParts, lineNode, lineSplit, lineBest, joinedSplit, joinedBest, Cleared, Lowered}
 use Rattle.lines.proofs.Node.{node-within, node-none}
-use Rattle.lines.proofs.Low.{low-within, low-same, low-leaves-out, low-turned}
+use Rattle.lines.proofs.RunningMin.{running-min-within, running-min-same, running-min-leaves-out, running-min-reversed}
 
--- ---- lowering a line to the splits with r caches in one part
+-- ---- one pass of the inner loop: line[r + n] becomes other[n] + x where that is smaller
 
 module _ (before other : List ℕ) (r x : ℕ) where
   pub lower-begins : Lowered before other 0 r x before
@@ -62,17 +62,17 @@ module _ (before other : List ℕ) (r x : ℕ) where
 module _ (node rest : List ℕ) (w : ℕ) where
   -- each entry is the least of its splits with fewer than r caches in `rest`
   abbrev pub LeastBefore : ℕ → List ℕ → Type 0
-  LeastBefore r line = (m : ℕ) → m < w → getD line m 0 ≡ low cap (rowSplit node rest m) (min r (m + 1))
+  LeastBefore r line = (m : ℕ) → m < w → getD line m 0 ≡ runningMin cap (joinedSplit node rest m) (min r (m + 1))
 
   pub row-begins : (line : List ℕ) → Cleared w line → LeastBefore 0 line
-  unfolding low
+  unfolding runningMin
   row-begins line clear m h =
       let none : min 0 (m + 1) ≡ 0 = omega arith in
       rw none (clear m h)
 
-  pub row-turns : (e r end : ℕ) (line after : List ℕ) {x : ℕ} → NoneFrom e w node → x ≡ getD rest r 0 → end ≡ min e (w - r)
+  pub row-turns : (e r end : ℕ) (line after : List ℕ) {x : ℕ} → NoFitFrom e w node → x ≡ getD rest r 0 → end ≡ min e (w - r)
       → LeastBefore r line → Lowered line node end r x after → LeastBefore (r + 1) after
-  unfolding low
+  unfolding runningMin
   row-turns e r end line after none hx he so-far lowered m h =
       elim (decLt m r) [
         | yes l ↦
@@ -86,64 +86,64 @@ module _ (node rest : List ℕ) (w : ℕ) where
             (elim (decLt (m - r) end) [
               | yes i ↦ omega (arith, rw here at (lowered .inside (m - r) i), rw last at (so-far m h))
               | no i ↦
-                  omega (arith, lowered .outside m (inr (omega arith)), rw last at (so-far m h), none (m - r) (omega arith) (omega arith), low-within cap (rowSplit node rest m) r)
+                  omega (arith, lowered .outside m (inr (omega arith)), rw last at (so-far m h), none (m - r) (omega arith) (omega arith), running-min-within cap (joinedSplit node rest m) r)
             ])
       ]
 
-  pub row-ends : (e : ℕ) (line : List ℕ) → length line ≡ w → NoneFrom e w rest → LeastBefore e line
-      → line ≡ map (rowCell node rest) (range 0 w)
-  unfolding rowCell
+  pub row-ends : (e : ℕ) (line : List ℕ) → length line ≡ w → NoFitFrom e w rest → LeastBefore e line
+      → line ≡ map (joinedBest node rest) (range 0 w)
+  unfolding joinedBest
   row-ends e line long none so-far =
       sym (take-all w line (omega arith))
       ∙ front-is-entries w line (omega arith)
       ∙ same-on-range _ _ 0 w
       (λ m _ k.
       so-far m (omega arith)
-      ∙ low-leaves-out cap (rowSplit node rest m) (min e (m + 1)) (m + 1) (omega arith) (λ i p q. omega (arith, none i (omega arith) (omega arith))))
+      ∙ running-min-leaves-out cap (joinedSplit node rest m) (min e (m + 1)) (m + 1) (omega arith) (λ i p q. omega (arith, none i (omega arith) (omega arith))))
 
 -- ---- the parts may change places
 
-pub row-parts-turned : {w a b : ℕ} {node rest : List ℕ} → RowParts w node rest a b → RowParts w rest node b a
-row-parts-turned p = record {
+pub row-parts-swapped : {w a b : ℕ} {node rest : List ℕ} → RowParts w node rest a b → RowParts w rest node b a
+row-parts-swapped p = record {
   long = (p .long .1, p .long .0);
   ends = (p .ends .1, p .ends .0);
   none = (p .none .1, p .none .0);
   fits = λ m n h k. omega (arith, p .fits n m k h);
 }
 
-row-cell-turned : (node rest : List ℕ) (m : ℕ) → rowCell node rest m ≡ rowCell rest node m
-unfolding rowCell
-row-cell-turned node rest m =
-    low-turned cap (rowSplit node rest m) (rowSplit rest node m) m
+joined-best-swapped : (node rest : List ℕ) (m : ℕ) → joinedBest node rest m ≡ joinedBest rest node m
+unfolding joinedBest
+joined-best-swapped node rest m =
+    running-min-reversed cap (joinedSplit node rest m) (joinedSplit rest node m) m
     (λ i h. let back : m - (m - i) ≡ i = omega arith in rw back (omega arith))
 
-pub row-turned : (node rest : List ℕ) (w : ℕ) → map (rowCell node rest) (range 0 w) ≡ map (rowCell rest node) (range 0 w)
-row-turned node rest w = same-on-range (rowCell node rest) (rowCell rest node) 0 w (λ m _ _. row-cell-turned node rest m)
+pub joined-swapped : (node rest : List ℕ) (w : ℕ) → map (joinedBest node rest) (range 0 w) ≡ map (joinedBest rest node) (range 0 w)
+joined-swapped node rest w = same-on-range (joinedBest node rest) (joinedBest rest node) 0 w (λ m _ _. joined-best-swapped node rest m)
 
--- ---- all entries, where the node's line is known up to its end, and the later siblings' line was copied
+-- ---- all entries, from a node's line that is stored up to its end and a copy of the later siblings' line
 
-module _ {taken spare rest : List ℕ} {member other w below after : ℕ} (parts : LineParts w taken spare rest member other)
-    (bounds : RowBounds w taken spare rest below after) (wide : w ≤ mostWidth) {node copy : List ℕ}
-    (known : node ≡ sets (replicate mostWidth cap) 0 (map (lineNode taken spare member other) (range 0 (ownEnd w below))))
+module _ {cached uncached rest : List ℕ} {member other w below after : ℕ} (parts : LineParts w cached uncached rest member other)
+    (bounds : RowBounds w cached uncached rest below after) (wide : w ≤ mostWidth) {node copy : List ℕ}
+    (known : node ≡ sets (replicate mostWidth cap) 0 (map (lineNode cached uncached member other) (range 0 (ownEnd w below))))
     (copied : copy ≡ sets (replicate mostWidth cap) 0 (take w rest)) where
   abbrev end : ℕ
   end = ownEnd w below
 
-  entry-known : (n : ℕ) → n < end → getD node n 0 ≡ lineNode taken spare member other n
+  entry-known : (n : ℕ) → n < end → getD node n 0 ≡ lineNode cached uncached member other n
   entry-known n h =
-      rw known (entry-stored (replicate mostWidth cap) (lineNode taken spare member other) end n (rw length-replicate (omega arith)) h)
+      rw known (entry-stored (replicate mostWidth cap) (lineNode cached uncached member other) end n (rw length-replicate (omega arith)) h)
 
   entry-none : (n : ℕ) → end ≤ n → n < w → getD node n 0 ≡ cap
   entry-none n h k =
       rw known
-      (entry-after (replicate mostWidth cap) 0 (map (lineNode taken spare member other) (range 0 end)) n
-      (rw (length-of-range (lineNode taken spare member other) 0 end) (omega arith))
+      (entry-after (replicate mostWidth cap) 0 (map (lineNode cached uncached member other) (range 0 end)) n
+      (rw (length-of-range (lineNode cached uncached member other) 0 end) (omega arith))
       ∙ getD-replicate mostWidth n cap 0 (omega arith))
 
   entry-within : (n : ℕ) → n < w → getD node n 0 ≤ cap + cap
   entry-within n h =
       elim (decLt n end) [
-        | yes l ↦ omega (arith, entry-known n l, node-within taken spare member other n w h (parts .node-parts))
+        | yes l ↦ omega (arith, entry-known n l, node-within cached uncached member other n w h (parts .node-parts))
         | no l ↦ omega (arith, entry-none n (omega arith) h)
       ]
 
@@ -161,10 +161,10 @@ module _ {taken spare rest : List ℕ} {member other w below after : ℕ} (parts
     fits = λ m n h k. omega (arith, entry-within m h, entry-copied n k, parts .rest-line .within n k);
   }
 
-  row-is-cell : (m : ℕ) → m < w → rowCell node copy m ≡ lineCell taken spare rest member other m
-  unfolding rowCell lineCell lineNode split cell
-  row-is-cell m h =
-      low-same cap (rowSplit node copy m) (lineSplit taken spare rest member other m) (m + 1)
+  row-is-best : (m : ℕ) → m < w → joinedBest node copy m ≡ lineBest cached uncached rest member other m
+  unfolding joinedBest lineBest lineNode split rowBest
+  row-is-best m h =
+      running-min-same cap (joinedSplit node copy m) (lineSplit cached uncached rest member other m) (m + 1)
       (λ i l.
       elim (decLt (m - i) end) [
         | yes k ↦ omega (arith, entry-known (m - i) k, entry-copied i (omega arith))
@@ -172,10 +172,10 @@ module _ {taken spare rest : List ℕ} {member other w below after : ℕ} (parts
             omega (
               arith,
               entry-none (m - i) (omega arith) (omega arith),
-              node-none taken spare member other (m - i) w below (bounds .taken-none) (bounds .spare-none) (omega arith) (omega arith),
+              node-none cached uncached member other (m - i) w below (bounds .cached-none) (bounds .uncached-none) (omega arith) (omega arith),
             )
       ])
-      ∙ rw (add-one m) (low-is (lineSplit taken spare rest member other m) cap m)
+      ∙ rw (add-one m) (running-min-is (lineSplit cached uncached rest member other m) cap m)
 
-  pub row-is-line : map (rowCell node copy) (range 0 w) ≡ map (lineCell taken spare rest member other) (range 0 w)
-  row-is-line = same-on-range (rowCell node copy) (lineCell taken spare rest member other) 0 w (λ m _ h. row-is-cell m (omega arith))
+  pub row-is-line : map (joinedBest node copy) (range 0 w) ≡ map (lineBest cached uncached rest member other) (range 0 w)
+  row-is-line = same-on-range (joinedBest node copy) (lineBest cached uncached rest member other) 0 w (λ m _ h. row-is-best m (omega arith))

@@ -1,4 +1,6 @@
-// One line of the plan's table: for each number of caches the least that a row of siblings costs, made from three other lines.
+// One line of the plan's table: entry n is the least cost of a row of siblings with n caches. It is made from three other lines:
+// that of the children of the row's first node if the node is a cache (`cached`), that of the children if it is none (`uncached`),
+// and that of the node's later siblings (`rest`).
 ghost use mathlib.Core.Path.{_≡_};
 ghost use mathlib.Core.Bool.{true, false};
 ghost use mathlib.Core.List.{map};
@@ -7,53 +9,54 @@ ghost use lib.ListN.{length, take};
 ghost use lib.Seq.{sets};
 ghost use Rattle.laws.specs.Lists.{range};
 ghost use Rattle.model.specs.File.{mostNodes};
-ghost use Rattle.lines.specs.Line.{NodeParts, LineParts, RowParts, SumsFit, ownEnd, restEnd, lineSide, lineTakes, lineNode, lineSplit, lineLater, SplitBound, rowCell, Cleared, Lowered, emptyCell};
+ghost use Rattle.lines.specs.Line.{NodeParts, LineParts, RowParts, SumsFit, ownEnd, restEnd, lineCostIf, lineTakes, lineNode, lineSplit, lineLater, SplitBound, joinedBest, Cleared, Lowered, emptyBest};
 use units::Total;
 
-// The most entries of a line: one for each budget from 0 to the largest.
+// The most entries that a line has: one for each number of caches from 0 to the largest budget.
 pub const WIDTH: usize = fields::Tree::BUDGET + 1;
 
 // What a node and its children cost, with the node as a cache and without.
-struct Sides {
+struct NodeCosts {
     member: Total,
     other: Total,
 }
 
-// A node with n caches at or below it, by whether it is one of them.
-fn sides_of(taken: &[u64], spare: &[u64], member: Total, other: Total, n: usize) -> Sides
-    requires { ⌜ NodeParts (n + 1) (now taken) (now spare) (member .0) (other .0) ⌝ }
-    ensures { λ r. ⌜ r .member .0 ≡ lineSide (now (taken .entry)) (now (spare .entry)) (member .0) (other .0) n true ⌝ }
-    ensures { λ r. ⌜ r .other .0 ≡ lineSide (now (taken .entry)) (now (spare .entry)) (member .0) (other .0) n false ⌝ }
+// What a node and its children cost with n caches at or below the node, by whether the node is one of them. As a cache the node
+// itself pays `member`, else `other`.
+fn node_costs(cached: &[u64], uncached: &[u64], member: Total, other: Total, n: usize) -> NodeCosts
+    requires { ⌜ NodeParts (n + 1) (now cached) (now uncached) (member .0) (other .0) ⌝ }
+    ensures { λ r. ⌜ r .member .0 ≡ lineCostIf (now (cached .entry)) (now (uncached .entry)) (member .0) (other .0) n true ⌝ }
+    ensures { λ r. ⌜ r .other .0 ≡ lineCostIf (now (cached .entry)) (now (uncached .entry)) (member .0) (other .0) n false ⌝ }
 {
-    let without = other.plus(Total(spare[n]));
+    let without = other.plus(Total(uncached[n]));
     if n == 0 {
-        return Sides {
+        return NodeCosts {
             member: Total::CAP,
             other: without,
         };
     }
-    Sides {
-        member: member.plus(Total(taken[n - 1])),
+    NodeCosts {
+        member: member.plus(Total(cached[n - 1])),
         other: without,
     }
 }
 
-// The least of a node and its children with n caches.
-fn node_best(taken: &[u64], spare: &[u64], member: Total, other: Total, n: usize) -> Total
-    requires { ⌜ NodeParts (n + 1) (now taken) (now spare) (member .0) (other .0) ⌝ }
-    ensures { λ r. ⌜ r .0 ≡ lineNode (now (taken .entry)) (now (spare .entry)) (member .0) (other .0) n ⌝ }
+// The least cost of a node and its children with n caches.
+fn node_best(cached: &[u64], uncached: &[u64], member: Total, other: Total, n: usize) -> Total
+    requires { ⌜ NodeParts (n + 1) (now cached) (now uncached) (member .0) (other .0) ⌝ }
+    ensures { λ r. ⌜ r .0 ≡ lineNode (now (cached .entry)) (now (uncached .entry)) (member .0) (other .0) n ⌝ }
 {
-    let sides = sides_of(taken, spare, member, other, n);
-    sides.member.lesser(sides.other)
+    let costs = node_costs(cached, uncached, member, other, n);
+    costs.member.lesser(costs.other)
 }
 
-// Whether the node itself is one of its n caches: it is, unless the other side costs less.
-pub fn takes(taken: &[u64], spare: &[u64], member: Total, other: Total, n: usize) -> bool
-    requires { ⌜ NodeParts (n + 1) (now taken) (now spare) (member .0) (other .0) ⌝ }
-    ensures { λ r. ⌜ r ≡ lineTakes (now (taken .entry)) (now (spare .entry)) (member .0) (other .0) n ⌝ }
+// Whether the node itself is one of the n caches: it is, unless it costs less without.
+pub fn takes(cached: &[u64], uncached: &[u64], member: Total, other: Total, n: usize) -> bool
+    requires { ⌜ NodeParts (n + 1) (now cached) (now uncached) (member .0) (other .0) ⌝ }
+    ensures { λ r. ⌜ r ≡ lineTakes (now (cached .entry)) (now (uncached .entry)) (member .0) (other .0) n ⌝ }
 {
-    let sides = sides_of(taken, spare, member, other, n);
-    !sides.other.is_less(sides.member)
+    let costs = node_costs(cached, uncached, member, other, n);
+    !costs.other.is_less(costs.member)
 }
 
 fn lesser(a: usize, b: usize) -> usize
@@ -65,24 +68,24 @@ fn lesser(a: usize, b: usize) -> usize
 // Stores a node's line for the counts below `end`.
 fn node_line(
     line: &mut [u64],
-    taken: &[u64],
-    spare: &[u64],
+    cached: &[u64],
+    uncached: &[u64],
     member: Total,
     other: Total,
     end: usize,
 )
     requires { ⌜ end ≤ length (now line) ⌝ }
-    requires { ⌜ NodeParts end (now taken) (now spare) (member .0) (other .0) ⌝ }
-    ensures { λ _. ⌜ now (line .exit) ≡ sets (now (line .entry)) 0 (map (lineNode (now (taken .entry)) (now (spare .entry)) (member .0) (other .0)) (range 0 end)) ⌝ }
+    requires { ⌜ NodeParts end (now cached) (now uncached) (member .0) (other .0) ⌝ }
+    ensures { λ _. ⌜ now (line .exit) ≡ sets (now (line .entry)) 0 (map (lineNode (now (cached .entry)) (now (uncached .entry)) (member .0) (other .0)) (range 0 end)) ⌝ }
 {
     let mut n = 0;
     while n < end {
-        line[n] = node_best(taken, spare, member, other, n).0;
+        line[n] = node_best(cached, uncached, member, other, n).0;
         n += 1;
     }
 }
 
-// How many counts a node can have, with `below` nodes in the row of its children.
+// The first number of caches that does not fit at a node and below it, at most w; `below` nodes are in the row of its children.
 fn own_end(w: usize, below: usize) -> usize
     requires { ⌜ below < mostNodes ⌝ }
     ensures { λ r. ⌜ r ≡ ownEnd w below ⌝ }
@@ -90,24 +93,24 @@ fn own_end(w: usize, below: usize) -> usize
     lesser(w, below + 2)
 }
 
-// Stores a node's line for the counts that it can have.
+// Stores a node's line for the counts that fit.
 pub fn own_line(
     line: &mut [u64],
-    taken: &[u64],
-    spare: &[u64],
+    cached: &[u64],
+    uncached: &[u64],
     member: Total,
     other: Total,
     w: usize,
     below: usize,
 )
     requires { ⌜ (w ≤ length (now line)) × (below < mostNodes) ⌝ }
-    requires { ⌜ NodeParts w (now taken) (now spare) (member .0) (other .0) ⌝ }
-    ensures { λ _. ⌜ now (line .exit) ≡ sets (now (line .entry)) 0 (map (lineNode (now (taken .entry)) (now (spare .entry)) (member .0) (other .0)) (range 0 (ownEnd w below))) ⌝ }
+    requires { ⌜ NodeParts w (now cached) (now uncached) (member .0) (other .0) ⌝ }
+    ensures { λ _. ⌜ now (line .exit) ≡ sets (now (line .entry)) 0 (map (lineNode (now (cached .entry)) (now (uncached .entry)) (member .0) (other .0)) (range 0 (ownEnd w below))) ⌝ }
 {
-    node_line(line, taken, spare, member, other, own_end(w, below));
+    node_line(line, cached, uncached, member, other, own_end(w, below));
 }
 
-// Lowers a row's line to the splits with r caches in one part, which then cost `cost`, and fewer than `end` in the other.
+// For each n < end: line[r + n] becomes other[n] + cost if that is smaller.
 fn lower(line: &mut [u64], other: &[u64], end: usize, r: usize, cost: Total)
     requires { ⌜ (r + end ≤ length (now line)) × (end ≤ length (now other)) ⌝ }
     requires { ⌜ SumsFit end (now other) (cost .0) ⌝ }
@@ -124,7 +127,7 @@ fn lower(line: &mut [u64], other: &[u64], end: usize, r: usize, cost: Total)
     }
 }
 
-// Stores "no choice" in the first w entries of a line.
+// Stores "does not fit" in the first w entries of a line.
 fn clear(line: &mut [u64], w: usize)
     requires { ⌜ w ≤ length (now line) ⌝ }
     ensures { λ _. ⌜ Cleared w (now (line .exit)) ⌝ }
@@ -136,27 +139,28 @@ fn clear(line: &mut [u64], w: usize)
     }
 }
 
-// Makes the line of a row of two parts. Only counts below `end` have a choice in the first, and below `turns` in the second.
-fn joined(line: &mut [u64], first: &[u64], second: &[u64], w: usize, end: usize, turns: usize)
+// Makes the line of a row of two parts from their lines: entry m is the least sum of an entry n of the first and an entry m − n of
+// the second. In the first only counts below `end` fit, in the second only counts below `stop`.
+fn joined(line: &mut [u64], first: &[u64], second: &[u64], w: usize, end: usize, stop: usize)
     requires { ⌜ length (now line) ≡ w ⌝ }
-    requires { ⌜ RowParts w (now first) (now second) end turns ⌝ }
-    ensures { λ _. ⌜ now (line .exit) ≡ map (rowCell (now (first .entry)) (now (second .entry))) (range 0 w) ⌝ }
+    requires { ⌜ RowParts w (now first) (now second) end stop ⌝ }
+    ensures { λ _. ⌜ now (line .exit) ≡ map (joinedBest (now (first .entry)) (now (second .entry))) (range 0 w) ⌝ }
 {
     clear(line, w);
     let mut r = 0;
-    while r < turns {
+    while r < stop {
         lower(line, first, lesser(end, w - r), r, Total(second[r]));
         r += 1;
     }
 }
 
 // Makes a row's line, from that of its first node and that of its later siblings; `below` nodes are in the row of the node's
-// children and `after` in the siblings'. The part with fewer counts takes the turns.
+// children and `after` in the siblings'. The shorter line drives the outer loop.
 pub fn row_line(line: &mut [u64], node: &[u64], rest: &[u64], w: usize, below: usize, after: usize)
     requires { ⌜ length (now line) ≡ w ⌝ }
     requires { ⌜ (below < mostNodes) × (after < mostNodes) ⌝ }
     requires { ⌜ RowParts w (now node) (now rest) (ownEnd w below) (restEnd w after) ⌝ }
-    ensures { λ _. ⌜ now (line .exit) ≡ map (rowCell (now (node .entry)) (now (rest .entry))) (range 0 w) ⌝ }
+    ensures { λ _. ⌜ now (line .exit) ≡ map (joinedBest (now (node .entry)) (now (rest .entry))) (range 0 w) ⌝ }
 {
     let own = own_end(w, below);
     let others = lesser(w, after + 1);
@@ -180,7 +184,7 @@ pub fn copy(to: &mut [u64], line: &[u64], w: usize)
 }
 
 fn empty_entry(m: usize) -> Total
-    ensures { λ r. ⌜ r .0 ≡ emptyCell m ⌝ }
+    ensures { λ r. ⌜ r .0 ≡ emptyBest m ⌝ }
 {
     if m == 0 { Total::ZERO } else { Total::CAP }
 }
@@ -188,7 +192,7 @@ fn empty_entry(m: usize) -> Total
 // Stores the line of the empty row at `at`.
 pub fn empty_line(s: &mut [u64], at: usize, w: usize)
     requires { ⌜ at + w ≤ length (now s) ⌝ }
-    ensures { λ _. ⌜ now (s .exit) ≡ sets (now (s .entry)) at (map emptyCell (range 0 w)) ⌝ }
+    ensures { λ _. ⌜ now (s .exit) ≡ sets (now (s .entry)) at (map emptyBest (range 0 w)) ⌝ }
 {
     let mut i = 0;
     while i < w {
@@ -197,44 +201,44 @@ pub fn empty_line(s: &mut [u64], at: usize, w: usize)
     }
 }
 
-// A row with m caches, of which r are among the later siblings.
+// The cost of a row with m caches, of which r are among the later siblings.
 fn split(
-    taken: &[u64],
-    spare: &[u64],
+    cached: &[u64],
+    uncached: &[u64],
     rest: &[u64],
     member: Total,
     other: Total,
     m: usize,
     r: usize,
 ) -> Total
-    requires { ⌜ LineParts (m + 1) (now taken) (now spare) (now rest) (member .0) (other .0) ⌝ }
+    requires { ⌜ LineParts (m + 1) (now cached) (now uncached) (now rest) (member .0) (other .0) ⌝ }
     requires { ⌜ r ≤ m ⌝ }
-    ensures { λ s. ⌜ s .0 ≡ lineSplit (now (taken .entry)) (now (spare .entry)) (now (rest .entry)) (member .0) (other .0) m r ⌝ }
+    ensures { λ s. ⌜ s .0 ≡ lineSplit (now (cached .entry)) (now (uncached .entry)) (now (rest .entry)) (member .0) (other .0) m r ⌝ }
 {
     let here = m - r;
-    node_best(taken, spare, member, other, here).plus(Total(rest[r]))
+    node_best(cached, uncached, member, other, here).plus(Total(rest[r]))
 }
 
-// How many of a row's m caches are among the later siblings: the least number at which the split is least. At or below the first
-// node there are at most `most`.
+// How many of a row's m caches are among the later siblings: the smallest number at which the split costs least. At or below the
+// first node there are at most `most`.
 pub fn later(
-    taken: &[u64],
-    spare: &[u64],
+    cached: &[u64],
+    uncached: &[u64],
     rest: &[u64],
     member: Total,
     other: Total,
     m: usize,
     most: usize,
 ) -> usize
-    requires { ⌜ LineParts (m + 1) (now taken) (now spare) (now rest) (member .0) (other .0) ⌝ }
-    requires { ⌜ SplitBound (now taken) (now spare) (now rest) (member .0) (other .0) m most ⌝ }
-    ensures { λ r. ⌜ r ≡ lineLater (now (taken .entry)) (now (spare .entry)) (now (rest .entry)) (member .0) (other .0) m ⌝ }
+    requires { ⌜ LineParts (m + 1) (now cached) (now uncached) (now rest) (member .0) (other .0) ⌝ }
+    requires { ⌜ SplitBound (now cached) (now uncached) (now rest) (member .0) (other .0) m most ⌝ }
+    ensures { λ r. ⌜ r ≡ lineLater (now (cached .entry)) (now (uncached .entry)) (now (rest .entry)) (member .0) (other .0) m ⌝ }
 {
     let mut first = m - most;
-    let mut least = split(taken, spare, rest, member, other, m, first);
+    let mut least = split(cached, uncached, rest, member, other, m, first);
     let mut r = first + 1;
     while r <= m {
-        let sum = split(taken, spare, rest, member, other, m, r);
+        let sum = split(cached, uncached, rest, member, other, m, r);
         if sum.is_less(least) {
             first = r;
             least = sum;

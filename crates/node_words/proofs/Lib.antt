@@ -2,4 +2,4 @@ pub mod Ancestors
 pub mod Words
 mod Measures
 mod Links
-mod Sizes
+mod RowNodes

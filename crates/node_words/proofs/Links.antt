@@ -9,35 +9,35 @@ use Rattle.laws.proofs.Fronts.{front-only-none, front-only-set, front-only-then
 use Rattle.model.specs.File.{Tree, treeOf}
 use Rattle.best_rows.specs.TreeRows.{firstAfter, nodesAfter, nextSibling}
 use Rattle.best_rows.proofs.TreeRows.{first-after-none, first-after-child, first-after-other, first-child-kept}
-use Rattle.node_words.specs.Words.{wordAt, distanceWord, depthWord, childWord, siblingWord, wordOf, HasNode, NodeRoom, SiteRoom, NodeWords, withPair, Measured, Cleared, Linked, LinksOnly}
+use Rattle.node_words.specs.Words.{nodeWords, wordAt, distanceWord, depthWord, childWord, siblingWord, wordOf, HasNode, NodeRoom, SiteRoom, NodeWords, withPair, Measured, Unlinked, Linked, LinksOnly}
 use Rattle.node_words.proofs.Words.{noted-none, noted-next, word-same, other-node, other-word, room-sound, room-parent}
 
 -- ---- distances and depths stay
 
 module _ (n : ℕ) where
   pub links-only-none : (s : List ℕ) → LinksOnly n s s
-  links-only-none s = record { front = front-only-none (4 * n) s; measures = λ v f h. refl }
+  links-only-none s = record { front = front-only-none (nodeWords * n) s; measures = λ v f h. refl }
 
   -- a store of a child or a sibling
-  links-only-set : {s r : List ℕ} (v f x : ℕ) → v < n → childWord ≤ f → f < 4 → LinksOnly n s r → LinksOnly n s (set r (wordAt v f) x)
+  links-only-set : {s r : List ℕ} (v f x : ℕ) → v < n → childWord ≤ f → f < nodeWords → LinksOnly n s r → LinksOnly n s (set r (wordAt v f) x)
   links-only-set {r = r} v f x h k l o =
       record {
-        front = front-only-set (4 * n) (wordAt v f) x (omega arith) (o .front);
+        front = front-only-set (nodeWords * n) (wordAt v f) x (omega arith) (o .front);
         measures = λ u g p. other-word r v f x u g (λ e. omega arith) l (omega arith) ∙ o .measures u g p;
       }
 
   pub links-only-then : {s r l : List ℕ} → LinksOnly n s r → LinksOnly n r l → LinksOnly n s l
   links-only-then o q =
-      record { front = front-only-then (4 * n) (o .front) (q .front); measures = λ v f h. q .measures v f h ∙ o .measures v f h }
+      record { front = front-only-then (nodeWords * n) (o .front) (q .front); measures = λ v f h. q .measures v f h ∙ o .measures v f h }
 
 -- ---- no node has a child or a sibling
 
-pub cleared-none : (s : List ℕ) → Cleared s 0
+pub cleared-none : (s : List ℕ) → Unlinked s 0
 cleared-none = noted-none childWord (λ _. 0) (λ _. 0)
 
 -- one node more
-pub cleared-next : {n v : ℕ} {o s r : List ℕ} → v < n → HasNode s v → Cleared s v → LinksOnly n o s → r ≡ withPair s v childWord 0 0
-    → Cleared r (v + 1) × LinksOnly n o r
+pub cleared-next : {n v : ℕ} {o s r : List ℕ} → v < n → HasNode s v → Unlinked s v → LinksOnly n o s → r ≡ withPair s v childWord 0 0
+    → Unlinked r (v + 1) × LinksOnly n o r
 cleared-next {n = n} {v = v} h k c o e =
     rw e (
       noted-next childWord (λ _. 0) (λ _. 0) (omega arith) k c,
@@ -47,7 +47,7 @@ cleared-next {n = n} {v = v} h k c o e =
 -- ---- the nodes after a node are linked
 
 -- the last node has none after it
-linked-none : (t : Tree) (s : List ℕ) → Cleared s (t .count) → Linked t s (t .count - 1)
+linked-none : (t : Tree) (s : List ℕ) → Unlinked s (t .count) → Linked t s (t .count - 1)
 linked-none t s c =
     let none : nodesAfter t (t .count - 1) ≡ 0 = omega arith in
     record {
@@ -58,7 +58,7 @@ linked-none t s c =
 
 -- one node more, its parent's first child
 linked-next : (t : Tree) (s : List ℕ) (i : ℕ) → let v = suc i in let up = t .parent v in
-    v < t .count → up < t .count → 4 * t .count ≤ length s → Linked t s v
+    v < t .count → up < t .count → nodeWords * t .count ≤ length s → Linked t s v
     → Linked t (set (set s (wordAt v siblingWord) (wordOf s up childWord)) (wordAt up childWord) v) i
 unfolding nextSibling
 linked-next t s i h k room l =
@@ -100,7 +100,7 @@ module _ (file : List ℕ) where
   t = treeOf file
 
   module _ {n : ℕ} {s : List ℕ} where
-    pub linked-last : NodeRoom file n s → Cleared s n → Linked t s (n - 1)
+    pub linked-last : NodeRoom file n s → Unlinked s n → Linked t s (n - 1)
     linked-last room c = rw (room .count) (linked-none t s (rw (room .count) at c))
 
     pub linked-site : {r l : List ℕ} {v up first : ℕ} → SiteRoom file n s v → Linked t s v → up ≡ t .parent v → first ≡ wordOf s up childWord

@@ -10,13 +10,13 @@ use Rattle.model.specs.Tree.{depth, distance}
 use Rattle.model.proofs.Routes.{distance-server, distance-up}
 use Rattle.model.proofs.Depths.{depth-server, depth-up}
 use Rattle.model.proofs.Bounds.{distance-bound}
-use Rattle.node_words.specs.Words.{wordAt, distanceWord, depthWord, wordOf, NodeRoom, SiteRoom, withPair, Measured}
+use Rattle.node_words.specs.Words.{nodeWords, wordAt, distanceWord, depthWord, wordOf, NodeRoom, SiteRoom, withPair, Measured}
 use Rattle.node_words.proofs.Words.{noted-none, noted-next, room-sound, room-some, room-parent}
 
-stored-front : (s : List ℕ) (n v a b : ℕ) → v < n → FrontOnly (4 * n) s (withPair s v distanceWord a b)
+stored-front : (s : List ℕ) (n v a b : ℕ) → v < n → FrontOnly (nodeWords * n) s (withPair s v distanceWord a b)
 stored-front s n v a b h =
-    front-only-set (4 * n) (wordAt v depthWord) b (omega arith)
-    (front-only-set (4 * n) (wordAt v distanceWord) a (omega arith) (front-only-none (4 * n) s))
+    front-only-set (nodeWords * n) (wordAt v depthWord) b (omega arith)
+    (front-only-set (nodeWords * n) (wordAt v distanceWord) a (omega arith) (front-only-none (nodeWords * n) s))
 
 module _ (file : List ℕ) where
   abbrev t : Tree
@@ -42,17 +42,17 @@ module _ (file : List ℕ) where
 
     -- one node more
     measured-next : {r : List ℕ} {v a b : ℕ} → NodeRoom file n s → v < n → Measured t s v → a ≡ distance t v → b ≡ depth t v
-        → r ≡ withPair s v distanceWord a b → Measured t r (v + 1) × FrontOnly (4 * n) s r
+        → r ≡ withPair s v distanceWord a b → Measured t r (v + 1) × FrontOnly (nodeWords * n) s r
     measured-next {v = v} room h m ea eb er =
         rw (er, ea, eb)
         (noted-next distanceWord (distance t) (depth t) (omega arith) (omega (arith, room .room)) m, stored-front s n v (distance t v) (depth t v) h)
 
     pub measured-site : {r : List ℕ} {v up a b : ℕ} → SiteRoom file n s v → Measured t s v → up ≡ t .parent v
         → a ≡ wordOf s up distanceWord + t .linkLength v → b ≡ wordOf s up depthWord + 1
-        → r ≡ withPair s v distanceWord a b → Measured t r (v + 1) × FrontOnly (4 * n) s r
+        → r ≡ withPair s v distanceWord a b → Measured t r (v + 1) × FrontOnly (nodeWords * n) s r
     measured-site here m e ea eb = let sums = measured-sums here m e in measured-next (here .nodes) (here .below) m (ea ∙ sums .0) (eb ∙ sums .1)
 
-    pub measured-server : {r : List ℕ} → NodeRoom file n s → r ≡ withPair s 0 distanceWord 0 0 → Measured t r 1 × FrontOnly (4 * n) s r
+    pub measured-server : {r : List ℕ} → NodeRoom file n s → r ≡ withPair s 0 distanceWord 0 0 → Measured t r 1 × FrontOnly (nodeWords * n) s r
     measured-server room =
         measured-next room (room-some room) (noted-none distanceWord (distance t) (depth t) s)
         (sym (distance-server t (room-sound room .server))) (sym (depth-server t))

@@ -15,20 +15,20 @@ use Rattle.model.proofs.Accepted.{accepted-header, accepted-sound}
 use Rattle.fields.specs.Table.{InFile}
 use Rattle.best_rows.specs.TreeRows.{NoneOrChild}
 use Rattle.best_rows.proofs.TreeRows.{first-child-stands, next-sibling-stands}
-use Rattle.node_words.specs.Words.{wordAt, distanceWord, depthWord, childWord, siblingWord, wordOf, HasNode, NodeRoom, SiteRoom, NodeWords, withPair, Noted}
+use Rattle.node_words.specs.Words.{nodeWords, wordAt, distanceWord, depthWord, childWord, siblingWord, wordOf, HasNode, NodeRoom, SiteRoom, NodeWords, withPair, Noted}
 
 -- ---- one store
 
 -- the word stored
-pub word-same : (s : List ℕ) (v f x : ℕ) → f < 4 → HasNode s v → wordOf (set s (wordAt v f) x) v f ≡ x
+pub word-same : (s : List ℕ) (v f x : ℕ) → f < nodeWords → HasNode s v → wordOf (set s (wordAt v f) x) v f ≡ x
 word-same s v f x h k = getD-set-same s (wordAt v f) x 0 (omega arith)
 
 -- the words of other nodes
-pub other-node : (s : List ℕ) (v f x u g : ℕ) → (u ≡ v → ⊥) → f < 4 → g < 4 → wordOf (set s (wordAt v f) x) u g ≡ wordOf s u g
+pub other-node : (s : List ℕ) (v f x u g : ℕ) → (u ≡ v → ⊥) → f < nodeWords → g < nodeWords → wordOf (set s (wordAt v f) x) u g ≡ wordOf s u g
 other-node s v f x u g n h k = getD-set-other s (wordAt v f) (wordAt u g) x 0 (λ e. n (omega arith))
 
 -- the other words of all nodes
-pub other-word : (s : List ℕ) (v f x u g : ℕ) → (g ≡ f → ⊥) → f < 4 → g < 4 → wordOf (set s (wordAt v f) x) u g ≡ wordOf s u g
+pub other-word : (s : List ℕ) (v f x u g : ℕ) → (g ≡ f → ⊥) → f < nodeWords → g < nodeWords → wordOf (set s (wordAt v f) x) u g ≡ wordOf s u g
 other-word s v f x u g n h k = getD-set-other s (wordAt v f) (wordAt u g) x 0 (λ e. n (omega arith))
 
 -- ---- two stores, for one node after another
@@ -37,7 +37,7 @@ module _ (f : ℕ) (a b : ℕ → ℕ) where
   pub noted-none : (s : List ℕ) → Noted f a b s 0
   noted-none s = record { first = λ v h. absurd (omega arith); second = λ v h. absurd (omega arith) }
 
-  pub noted-next : {s : List ℕ} {v : ℕ} → f < 3 → HasNode s v → Noted f a b s v → Noted f a b (withPair s v f (a v) (b v)) (v + 1)
+  pub noted-next : {s : List ℕ} {v : ℕ} → f + 1 < nodeWords → HasNode s v → Noted f a b s v → Noted f a b (withPair s v f (a v) (b v)) (v + 1)
   noted-next {s = s} {v = v} k h m =
       record {
         first = λ u l.
@@ -55,7 +55,7 @@ module _ (f : ℕ) (a b : ℕ → ℕ) where
       r : List ℕ
       r = set s (wordAt v f) (a v)
 
-      earlier : (u g : ℕ) → (u ≡ v → ⊥) → g < 4 → wordOf (withPair s v f (a v) (b v)) u g ≡ wordOf s u g
+      earlier : (u g : ℕ) → (u ≡ v → ⊥) → g < nodeWords → wordOf (withPair s v f (a v) (b v)) u g ≡ wordOf s u g
       earlier u g e l = other-node r v (f + 1) (b v) u g e (omega arith) l ∙ other-node s v f (a v) u g e (omega arith) l
 
 -- ---- an accepted file with room for its nodes
@@ -71,7 +71,7 @@ module _ {file : List ℕ} {n : ℕ} {s : List ℕ} (r : NodeRoom file n s) wher
   room-record h = let head = accepted-header file (r .accepted) in record { node = omega (arith, r .count, head .few); long = omega (arith, r .count, head .exact) }
 
   -- room for the nodes stays
-  pub room-kept : {l : List ℕ} → FrontOnly (4 * n) s l → NodeRoom file n l
+  pub room-kept : {l : List ℕ} → FrontOnly (nodeWords * n) s l → NodeRoom file n l
   room-kept f = record { accepted = r .accepted; count = r .count; room = omega (arith, r .room, f .long) }
 
 module _ {file : List ℕ} {n : ℕ} {s : List ℕ} where
@@ -87,7 +87,7 @@ module _ {file : List ℕ} {n : ℕ} {s : List ℕ} where
 -- ---- the words of all nodes
 
 -- they are the same in another list with the same front
-pub node-words-same : (t : Tree) (s r : List ℕ) → take (4 * t .count) s ≡ take (4 * t .count) r → NodeWords t s → NodeWords t r
+pub node-words-same : (t : Tree) (s r : List ℕ) → take (nodeWords * t .count) s ≡ take (nodeWords * t .count) r → NodeWords t s → NodeWords t r
 node-words-same t s r e w =
     record {
       distance = λ v h. kept v distanceWord (omega arith) h ∙ w .distance v h;
@@ -97,8 +97,8 @@ node-words-same t s r e w =
       server = λ h. kept 0 siblingWord (omega arith) h ∙ w .server h;
     }
   where
-    kept : (v f : ℕ) → f < 4 → v < t .count → wordOf r v f ≡ wordOf s v f
-    kept v f k h = same-front-entry (4 * t .count) r s (wordAt v f) (sym e) (omega arith)
+    kept : (v f : ℕ) → f < nodeWords → v < t .count → wordOf r v f ≡ wordOf s v f
+    kept v f k h = same-front-entry (nodeWords * t .count) r s (wordAt v f) (sym e) (omega arith)
 
 module _ (t : Tree) (s : List ℕ) (w : NodeWords t s) (v : ℕ) (h : v < t .count) where
   -- a first child is none, or a later node whose parent this is

@@ -1,4 +1,4 @@
--- The ancestor of a node at a given depth: the serving node that a line of the table stands for.
+-- The ancestor of a node at a given depth. A line of the table is for one such ancestor as the serving node.
 use Prim.Native.Nat.{ℕ, _-_}
 use lib.ListN.{getD}
 use Rattle.model.specs.File.{Tree}

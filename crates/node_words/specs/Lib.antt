@@ -1,3 +1,3 @@
 pub mod Words
-pub mod Sizes
+pub mod RowNodes
 pub mod Ancestors

@@ -4,10 +4,13 @@ ghost use Prim.Native.Nat.{_+_, _*_, _-_, _≤_, _<_, _^_};
 ghost use lib.ListN.{length, set};
 ghost use Rattle.laws.specs.Fronts.{FrontOnly};
 ghost use Rattle.model.specs.File.{treeOf};
-ghost use Rattle.node_words.specs.Words.{wordAt, distanceWord, depthWord, childWord, siblingWord, wordOf, HasNode, NodeRoom, SiteRoom, NodeWords, withPair, Measured, Cleared, Linked, LinksOnly};
-ghost use Rattle.node_words.specs.Sizes.{SomeFileWords, RowSizesBy};
+ghost use Rattle.node_words.specs.Words.{nodeWords, wordAt, distanceWord, depthWord, childWord, siblingWord, wordOf, HasNode, NodeRoom, SiteRoom, NodeWords, withPair, Measured, Unlinked, Linked, LinksOnly};
+ghost use Rattle.node_words.specs.RowNodes.{SomeFileWords, RowNodesBy};
 
-// Of each node: its distance to the server, its depth, its first child and its next sibling.
+// How many words the scratch holds of each node, and which is which: its distance to the server, its depth, its first child and
+// its next sibling.
+pub const NODE_WORDS: usize = 4;
+
 const DISTANCE: usize = 0;
 
 const DEPTH: usize = 1;
@@ -21,27 +24,28 @@ fn word_at(v: usize, f: usize) -> usize
     requires { ⌜ wordAt v f < 2 ^ 64 ⌝ }
     ensures { λ r. ⌜ r ≡ wordAt v f ⌝ }
 {
-    4 * v + f
+    NODE_WORDS * v + f
 }
 
-// Word `f` of node `v`.
+// Reads word `f` of node `v`.
 pub fn word(words: &[u64], v: usize, f: usize) -> u64
-    requires { ⌜ (f < 4) × HasNode (now words) v ⌝ }
+    requires { ⌜ (f < nodeWords) × HasNode (now words) v ⌝ }
     ensures { λ r. ⌜ r ≡ wordOf (now (words .entry)) v f ⌝ }
 {
     words[word_at(v, f)]
 }
 
+// Stores word `f` of node `v`.
 pub fn put(words: &mut [u64], v: usize, f: usize, value: u64)
-    requires { ⌜ (f < 4) × HasNode (now words) v ⌝ }
+    requires { ⌜ (f < nodeWords) × HasNode (now words) v ⌝ }
     ensures { λ _. ⌜ now (words .exit) ≡ set (now (words .entry)) (wordAt v f) value ⌝ }
 {
     words[word_at(v, f)] = value;
 }
 
-// Words `f` and `f + 1` of node `v`.
+// Stores words `f` and `f + 1` of node `v`.
 fn put_pair(words: &mut [u64], v: usize, f: usize, first: u64, second: u64)
-    requires { ⌜ (f < 3) × HasNode (now words) v ⌝ }
+    requires { ⌜ (f + 1 < nodeWords) × HasNode (now words) v ⌝ }
     ensures { λ _. ⌜ now (words .exit) ≡ withPair (now (words .entry)) v f first second ⌝ }
 {
     put(words, v, f, first);
@@ -80,12 +84,12 @@ pub fn sibling_of(words: &[u64], v: usize) -> usize
 
 // ---- distances and depths, from the server down
 
-// The distance and the depth of node `v`, from those of its parent.
+// Stores the distance and the depth of node `v`, from those of its parent.
 fn measure_node(file: &[u8], n: usize, v: usize, words: &mut [u64])
     requires { ⌜ SiteRoom (now file) n (now words) v ⌝ }
     requires { ⌜ Measured (treeOf (now file)) (now words) v ⌝ }
     ensures { λ _. ⌜ Measured (treeOf (now (file .entry))) (now (words .exit)) (v + 1) ⌝ }
-    ensures { λ _. ⌜ FrontOnly (4 * n) (now (words .entry)) (now (words .exit)) ⌝ }
+    ensures { λ _. ⌜ FrontOnly (nodeWords * n) (now (words .entry)) (now (words .exit)) ⌝ }
 {
     let up = fields::parent_of(file, v);
     let distance = distance_of(words, up).plus(fields::length_of(file, v));
@@ -93,11 +97,11 @@ fn measure_node(file: &[u8], n: usize, v: usize, words: &mut [u64])
     put_pair(words, v, DISTANCE, distance.0, depth);
 }
 
-// The distance and the depth of each node.
+// Stores the distance and the depth of each node.
 pub fn measure(file: &[u8], n: usize, words: &mut [u64])
     requires { ⌜ NodeRoom (now file) n (now words) ⌝ }
     ensures { λ _. ⌜ Measured (treeOf (now (file .entry))) (now (words .exit)) n ⌝ }
-    ensures { λ _. ⌜ FrontOnly (4 * n) (now (words .entry)) (now (words .exit)) ⌝ }
+    ensures { λ _. ⌜ FrontOnly (nodeWords * n) (now (words .entry)) (now (words .exit)) ⌝ }
 {
     put_pair(words, 0, DISTANCE, 0, 0);
     let mut v = 1;
@@ -109,10 +113,10 @@ pub fn measure(file: &[u8], n: usize, words: &mut [u64])
 
 // ---- first children and next siblings, from the last node up
 
-// No node has a child or a sibling.
+// Stores "none" as the first child and the next sibling of each node.
 fn clear(n: usize, words: &mut [u64])
-    requires { ⌜ 4 * n ≤ length (now words) ⌝ }
-    ensures { λ _. ⌜ Cleared (now (words .exit)) n ⌝ }
+    requires { ⌜ nodeWords * n ≤ length (now words) ⌝ }
+    ensures { λ _. ⌜ Unlinked (now (words .exit)) n ⌝ }
     ensures { λ _. ⌜ LinksOnly n (now (words .entry)) (now (words .exit)) ⌝ }
 {
     let mut v = 0;
@@ -122,7 +126,7 @@ fn clear(n: usize, words: &mut [u64])
     }
 }
 
-// Node `v` becomes the first child of its parent, before the one that was.
+// Puts node `v` in front of the list of its parent's children.
 fn link_node(file: &[u8], n: usize, v: usize, words: &mut [u64])
     requires { ⌜ SiteRoom (now file) n (now words) v ⌝ }
     requires { ⌜ Linked (treeOf (now file)) (now words) v ⌝ }
@@ -135,7 +139,7 @@ fn link_node(file: &[u8], n: usize, v: usize, words: &mut [u64])
     put(words, up, CHILD, v as u64);
 }
 
-// The first child and the next sibling of each node.
+// Stores the first child and the next sibling of each node.
 fn link(file: &[u8], n: usize, words: &mut [u64])
     requires { ⌜ NodeRoom (now file) n (now words) ⌝ }
     ensures { λ _. ⌜ Linked (treeOf (now (file .entry))) (now (words .exit)) 0 ⌝ }
@@ -149,28 +153,28 @@ fn link(file: &[u8], n: usize, words: &mut [u64])
     }
 }
 
-// The four words of each node; nothing behind them is touched.
+// Stores the four words of each node, and changes nothing behind them.
 pub fn note_nodes(file: &[u8], n: usize, words: &mut [u64])
     requires { ⌜ NodeRoom (now file) n (now words) ⌝ }
     ensures { λ _. ⌜ NodeWords (treeOf (now (file .entry))) (now (words .exit)) ⌝ }
-    ensures { λ _. ⌜ FrontOnly (4 * n) (now (words .entry)) (now (words .exit)) ⌝ }
+    ensures { λ _. ⌜ FrontOnly (nodeWords * n) (now (words .entry)) (now (words .exit)) ⌝ }
 {
     measure(file, n, words);
     link(file, n, words);
 }
 
-// How many nodes the row that begins with each node has; 0 stands for no node.
-pub fn row_sizes(words: &[u64], n: usize) -> [usize; fields::Tree::NODES]
+// Entry v is how many nodes the row that begins with v has (v, its later siblings, and all below them). Node 0 begins no row: 0.
+pub fn row_nodes(words: &[u64], n: usize) -> [usize; fields::Tree::NODES]
     requires { ⌜ SomeFileWords n (now words) ⌝ }
-    ensures { λ r. ⌜ RowSizesBy n (now (words .entry)) r ⌝ }
+    ensures { λ r. ⌜ RowNodesBy n (now (words .entry)) r ⌝ }
 {
-    let mut sizes = [0usize; fields::Tree::NODES];
+    let mut counts = [0usize; fields::Tree::NODES];
     let mut v = n;
     while 1 < v {
         v -= 1;
-        let below = sizes[child_of(words, v)];
-        let after = sizes[sibling_of(words, v)];
-        sizes[v] = 1 + below + after;
+        let below = counts[child_of(words, v)];
+        let after = counts[sibling_of(words, v)];
+        counts[v] = 1 + below + after;
     }
-    sizes
+    counts
 }

@@ -1,4 +1,4 @@
--- From the line of the server's row to the plan: the count that each budget takes, its total and its row.
+-- From the line of the server's row to the plan: how many caches each budget has, its total and its row.
 use mathlib.Core.Path.{_≡_, refl, sym, ap, _∙_}
 use mathlib.Core.Bool.{Bool, true, false}
 use mathlib.Core.List.{List, map}
@@ -38,9 +38,9 @@ use Rattle.optimum.specs.Budgets.{planRow, Budget, Buffers, Planned}
 use Rattle.optimum.proofs.Served.{children-served}
 use Rattle.optimum.proofs.Walk.{table-sound, table-budget, table-child}
 
--- ---- the count that a budget takes
+-- ---- how many caches a budget has
 
--- better by the entries of a line is better by the rule that it holds
+-- the better of two counts by the entries of a line is the better by the function that the line holds
 better-by-line : (f : ℕ → ℕ) (w : ℕ) {l : List ℕ} (x y : ℕ) → l ≡ map f (range 0 w) → x < w → y < w
     → better (λ n. getD l n 0) x y ≡ better f x y
 unfolding better
@@ -75,7 +75,7 @@ module _ {file : List ℕ} {sizes : code.Tree} {s : List ℕ} {b last : ℕ} (r 
   -- that many caches of the server's row are the plan, and cost its total
   found : (bestNodes (treeOf file) (demandOf file) (firstChild (treeOf file) 0) 0 (leastCount (treeOf file) (demandOf file) b) ≡ plan (treeOf file) (demandOf file) b)
       × (bestAt (treeOf file) (demandOf file) (firstChild (treeOf file) 0) 0 (leastCount (treeOf file) (demandOf file) b) ≡ planTotal (treeOf file) (demandOf file) b)
-  found = optimum-found file (r .table .ready .room .accepted) b
+  found = optimum-found file (r .table .stored .room .accepted) b
 
   ok : Sound (treeOf file) (demandOf file)
   ok = table-sound (r .table)
@@ -87,7 +87,7 @@ module _ {file : List ℕ} {sizes : code.Tree} {s : List ℕ} {b last : ℕ} (r 
 
   pub line-place : {child : ℕ} → child ≡ wordOf s 0 childWord → InTable sizes child 0 × (tableEnd sizes ≤ length s)
   line-place e =
-      let room = r .table .ready .room in
+      let room = r .table .stored .room in
       rw (table-child (r .table) (ok .some) e) (room-place room (rw (room-count room) (served .node)) (omega arith), room-long room)
 
   abbrev serverBest : ℕ → ℕ
@@ -100,7 +100,7 @@ module _ {file : List ℕ} {sizes : code.Tree} {s : List ℕ} {b last : ℕ} (r 
     server-line =
         let t = treeOf file in
         let first = firstChild t 0 in
-        let node : first < sizes .nodes = rw (room-count (r .table .ready .room)) (served .node) in
+        let node : first < sizes .nodes = rw (room-count (r .table .stored .room)) (served .node) in
         let has : HasLine t first 0 = ⊎-elim (λ z. inl z) (λ w. inr (omega (arith, w .0))) (served .way) in
         rw (table-child (r .table) (ok .some) e) at f
         ∙ r .table .lines first 0 node (omega arith) has (inr (omega arith))

@@ -29,18 +29,18 @@ module _ (t : Tree) (d : Demand) where
 
   module _ (x c : ℕ) where
     module _ (n : ℕ) (h : nodeBestAt t d x c n < cap) where
-      abbrev taken : Bool
-      taken = takesNode t d x c n
+      abbrev member : Bool
+      member = takesNode t d x c n
 
       -- with its own choice the children's row can have the caches left
-      pub children-attained : (one x taken ≤ n) × (bestAt t d (firstChild t x) (cond taken x c) (n - one x taken) < cap)
+      pub children-attained : (one x member ≤ n) × (bestAt t d (firstChild t x) (cond member x c) (n - one x member) < cap)
       children-attained = let a = node-best-attained t d x c n h in (a .0, omega (arith, a .1))
 
       length-nodes-from : length (nodesFrom t d x c n) ≡ n
       unfolding nodesFrom
       length-nodes-from =
           let a = children-attained in
-          length-append (ifMember taken x) _ ∙ omega (arith, length-member taken, length-best-nodes t d _ _ _ (a .1), a .0)
+          length-append (ifMember member x) _ ∙ omega (arith, length-member member, length-best-nodes t d _ _ _ (a .1), a .0)
         where
           length-member : (u : Bool) → length (ifMember u x) ≡ one x u
           length-member true = refl

@@ -7,15 +7,15 @@ use native.Mathlib.Omega.{arith}
 use Rattle.model.specs.File.{treeOf, demandOf}
 use Rattle.model.specs.Bill.{price}
 use Rattle.fields.specs.declared.Tree as code
-use Rattle.best_rows.specs.Best.{nodeBest, split, cell}
+use Rattle.best_rows.specs.Best.{nodeBest, split, rowBest}
 use Rattle.best_rows.specs.TreeRows.{nextSibling}
 use Rattle.best_rows.specs.BestAt.{site, bestAt, childrenAt, nodeBestAt, takesNode, splitAt, laterAt}
 use Rattle.best_rows.proofs.Cover.{next-sibling-is}
 use Rattle.best_rows.proofs.Table.{node-best-over, later-at-attains}
 use Rattle.node_words.specs.Words.{wordOf, depthWord, siblingWord, HasNode}
-use Rattle.lines.specs.Line.{LineParts, NodeParts, SplitBound, lineTakes, lineLater}
+use Rattle.lines.specs.Line.{LineParts, NodeParts, SplitBound, lineTakes, lineLater, LinesHoldBest}
 use Rattle.lines.proofs.Fewer.{line-parts-fewer, parts-fewer}
-use Rattle.lines.proofs.Known.{Known, known-node, known-cell, known-later, known-takes}
+use Rattle.lines.proofs.HeldBest.{held-node, held-best, held-later, held-takes}
 use Rattle.table.specs.Table.{width, Served}
 use Rattle.table.proofs.Lines.{parts-read}
 use Rattle.optimum.specs.Walk.{MostBelow, RowToSplit}
@@ -23,71 +23,71 @@ use Rattle.optimum.proofs.Served.{served-from-above}
 use Rattle.optimum.proofs.Nodes.{later-within}
 use Rattle.optimum.proofs.Walk.{table-sound, table-has-node, table-budget}
 
-module _ {file : List ℕ} {sizes : code.Tree} {s : List ℕ} {x server m : ℕ} (r : RowToSplit file sizes s x server m) where
-  pub server-stands : HasNode s server
-  server-stands = table-has-node (r .table) (r .row .served .above)
+module _ {file : List ℕ} {sizes : code.Tree} {s : List ℕ} {x serving m : ℕ} (r : RowToSplit file sizes s x serving m) where
+  pub serving-stands : HasNode s serving
+  serving-stands = table-has-node (r .table) (r .row .served .above)
 
   -- at its serving node's depth, as it is read
-  pub split-served : {above : ℕ} → above ≡ wordOf s server depthWord → Served (treeOf file) x above server
+  pub split-served : {above : ℕ} → above ≡ wordOf s serving depthWord → Served (treeOf file) x above serving
   split-served e =
       let t = treeOf file in
-      let way = served-from-above t (table-sound (r .table) .preorder) x server (r .site) (r .row .served) in
-      rw (e ∙ r .table .ready .words .depth server (r .row .served .above))
-      (record { site = r .site; node = r .row .served .node; above = way .0; server = sym (way .1) })
+      let way = served-from-above t (table-sound (r .table) .preorder) x serving (r .site) (r .row .served) in
+      rw (e ∙ r .table .stored .words .depth serving (r .row .served .above))
+      (record { site = r .site; node = r .row .served .node; above = way .0; ancestor = sym (way .1) })
 
   split-within : m < width sizes
   split-within = omega (arith, table-budget (r .table), r .row .within)
 
-  module _ {above member other : ℕ} {taken spare rest : List ℕ} (at : Served (treeOf file) x above server)
-      (known : Known (width sizes) (childrenAt (treeOf file) (demandOf file) x server) (bestAt (treeOf file) (demandOf file) (nextSibling (treeOf file) x) server) taken spare rest)
-      (p : member ≡ price (treeOf file) (demandOf file) x x) (q : other ≡ price (treeOf file) (demandOf file) x server) where
-    -- the lines answer for all m caches
-    pub split-parts : LineParts (m + 1) taken spare rest member other
+  module _ {above member other : ℕ} {cached uncached rest : List ℕ} (at : Served (treeOf file) x above serving)
+      (held : LinesHoldBest (width sizes) (childrenAt (treeOf file) (demandOf file) x serving) (bestAt (treeOf file) (demandOf file) (nextSibling (treeOf file) x) serving) cached uncached rest)
+      (p : member ≡ price (treeOf file) (demandOf file) x x) (q : other ≡ price (treeOf file) (demandOf file) x serving) where
+    -- the lines are right for up to m caches
+    pub split-parts : LineParts (m + 1) cached uncached rest member other
     split-parts =
         line-parts-fewer (m + 1) (width sizes) (omega (arith, split-within))
-        (parts-read (treeOf file) (demandOf file) (width sizes) (table-sound (r .table)) at known refl p q)
+        (parts-read (treeOf file) (demandOf file) (width sizes) (table-sound (r .table)) at held refl p q)
 
     -- at or below x there are no more than the nodes from x up to its next sibling
     pub split-bound : {sibling most : ℕ} → sibling ≡ wordOf s x siblingWord → MostBelow x sibling m most
-        → SplitBound taken spare rest member other m most
-    unfolding laterAt splitAt nodeBestAt nodeBest split cell
+        → SplitBound cached uncached rest member other m most
+    unfolding laterAt splitAt nodeBestAt nodeBest split rowBest
     split-bound f b =
         let t = treeOf file in
         let d = demandOf file in
-        let next = f ∙ r .table .ready .words .sibling x (r .site) (r .row .served .node) in
+        let next = f ∙ r .table .stored .words .sibling x (r .site) (r .row .served .node) in
         record {
           within = b .within;
           over =
               λ n h k.
               let fewer = b .nodes (omega arith) in
               let is = next-sibling-is t (table-sound (r .table) .preorder) x (r .site) (r .row .served .node) (omega arith) in
-              rw (p, q, known-node (width sizes) (site t d x .pay server) (childrenAt t d x server) (bestAt t d (nextSibling t x) server) taken spare rest known n (omega (arith, split-within)))
-              (node-best-over t d x server n (omega arith));
+              rw (p, q, held-node (width sizes) (site t d x .pay serving) (childrenAt t d x serving) (bestAt t d (nextSibling t x) serving) cached uncached rest held n (omega (arith, split-within)))
+              (node-best-over t d x serving n (omega arith));
           attained =
-              rw (p, q, known-cell (width sizes) (site t d x .pay server) (childrenAt t d x server) (bestAt t d (nextSibling t x) server) taken spare rest known m split-within)
-              (omega (arith, later-at-attains t d x (r .site) (r .row .served .node) server m (r .row .attained), r .row .attained));
+              rw (p, q, held-best (width sizes) (site t d x .pay serving) (childrenAt t d x serving) (bestAt t d (nextSibling t x) serving) cached uncached rest held m split-within)
+              (omega (arith, later-at-attains t d x (r .site) (r .row .served .node) serving m (r .row .attained), r .row .attained));
         }
 
-    module _ {later : ℕ} (e : later ≡ lineLater taken spare rest member other m) where
+    module _ {later : ℕ} (e : later ≡ lineLater cached uncached rest member other m) where
       -- what is read is the split, and then the node's own choice
-      pub split-later : later ≡ laterAt (treeOf file) (demandOf file) x server m
+      pub split-later : later ≡ laterAt (treeOf file) (demandOf file) x serving m
       unfolding laterAt splitAt nodeBestAt nodeBest split
       split-later =
           let t = treeOf file in
           let d = demandOf file in
-          rw (p, q) at e ∙ known-later (width sizes) (site t d x .pay server) (childrenAt t d x server) (bestAt t d (nextSibling t x) server) taken spare rest known m split-within
+          rw (p, q) at e ∙ held-later (width sizes) (site t d x .pay serving) (childrenAt t d x serving) (bestAt t d (nextSibling t x) serving) cached uncached rest held m split-within
 
       pub split-fits : later ≤ m
-      split-fits = rw split-later (later-within (treeOf file) (demandOf file) x server m (r .site) (r .row .served .node) (r .row .attained))
+      split-fits = rw split-later (later-within (treeOf file) (demandOf file) x serving m (r .site) (r .row .served .node) (r .row .attained))
 
-      pub split-node-parts : NodeParts (m - later + 1) taken spare member other
+      pub split-node-parts : NodeParts (m - later + 1) cached uncached member other
       split-node-parts = parts-fewer (m - later + 1) (m + 1) (omega arith) (split-parts .node-parts)
 
-      pub split-member : {u : Bool} → u ≡ lineTakes taken spare member other (m - later)
-          → u ≡ takesNode (treeOf file) (demandOf file) x server (m - later)
+      pub split-member : {u : Bool} → u ≡ lineTakes cached uncached member other (m - later)
+          → u ≡ takesNode (treeOf file) (demandOf file) x serving (m - later)
       unfolding takesNode
       split-member f =
           let t = treeOf file in
           let d = demandOf file in
           let within : m - later < width sizes = omega (arith, split-within) in
-          rw (p, q) at f ∙ known-takes (width sizes) (site t d x .pay server) (childrenAt t d x server) (bestAt t d (nextSibling t x) server) taken spare rest known (m - later) within
+          rw (p, q) at f ∙ held-takes (width sizes) (site t d x .pay serving) (childrenAt t d x serving) (bestAt t d (nextSibling t x) serving) cached uncached rest held (m - later) within

@@ -1,4 +1,4 @@
--- The walk through the table: at a node its children's row can be walked, and a turn at a row leaves its later siblings.
+-- The walk through the table: from a node to the row of its children, and from a row's first node to its later siblings.
 use mathlib.Core.Path.{_≡_, refl, sym, ap, _∙_}
 use mathlib.Core.Bool.{Bool, true, false, cond}
 use mathlib.Core.List.{List}
@@ -18,7 +18,7 @@ use Rattle.best_rows.specs.BestAt.{one, bestAt, bestNodes, nodeBestAt, takesNod
 use Rattle.best_rows.proofs.Table.{row-size-node}
 use Rattle.node_words.specs.Words.{wordOf, childWord, siblingWord, HasNode}
 use Rattle.table.specs.Table.{Table}
-use Rattle.table.proofs.Room.{room-sound, room-count, ready-node}
+use Rattle.table.proofs.Room.{room-sound, room-count, stored-node}
 use Rattle.optimum.specs.Walk.{nodesFrom, RowHas, RowToSplit, RowToWalk, NodeToWalk, Walked}
 use Rattle.optimum.proofs.Served.{children-served, children-served-above, siblings-served}
 use Rattle.optimum.proofs.Nodes.{row-has-node, row-without, node-without, children-attained, later-within, row-attained, row-stores}
@@ -27,31 +27,31 @@ use Rattle.optimum.proofs.Nodes.{row-has-node, row-without, node-withou
 
 module _ {file : List ℕ} {sizes : code.Tree} {s : List ℕ} (r : Table file sizes s) where
   pub table-sound : Sound (treeOf file) (demandOf file)
-  table-sound = room-sound (r .ready .room)
+  table-sound = room-sound (r .stored .room)
 
   pub table-has-node : {v : ℕ} → v < countOf file → HasNode s v
-  table-has-node h = ready-node (r .ready) (rw (room-count (r .ready .room)) h)
+  table-has-node h = stored-node (r .stored) (rw (room-count (r .stored .room)) h)
 
   pub table-budget : sizes .budget ≡ budgetOf file
-  table-budget = ap (λ z. z .budget) (r .ready .room .of-file)
+  table-budget = ap (λ z. z .budget) (r .stored .room .of-file)
 
   -- a first child, as it is read
   pub table-child : {v child : ℕ} → v < countOf file → child ≡ wordOf s v childWord → child ≡ firstChild (treeOf file) v
-  table-child h e = e ∙ r .ready .words .child _ h
+  table-child h e = e ∙ r .stored .words .child _ h
 
 -- ---- at a node with n caches at or below it
 
-module _ {file : List ℕ} {sizes : code.Tree} {s : List ℕ} {x server n : ℕ} {member : Bool} {at : ℕ} {rows : List ℕ}
-    (r : NodeToWalk file sizes s x server n member at rows) where
+module _ {file : List ℕ} {sizes : code.Tree} {s : List ℕ} {x serving n : ℕ} {member : Bool} {at : ℕ} {rows : List ℕ}
+    (r : NodeToWalk file sizes s x serving n member at rows) where
   pub node-stands : HasNode s x
   node-stands = table-has-node (r .table) (r .node .served .node)
 
   pub node-small : x < mostNodes
   node-small = omega (arith, r .node .served .node, table-sound (r .table) .few)
 
-  attained : let u = takesNode (treeOf file) (demandOf file) x server n in
-      (one x u ≤ n) × (bestAt (treeOf file) (demandOf file) (firstChild (treeOf file) x) (cond u x server) (n - one x u) < cap)
-  attained = children-attained (treeOf file) (demandOf file) x server n (r .node .attained)
+  attained : let u = takesNode (treeOf file) (demandOf file) x serving n in
+      (one x u ≤ n) × (bestAt (treeOf file) (demandOf file) (firstChild (treeOf file) x) (cond u x serving) (n - one x u) < cap)
+  attained = children-attained (treeOf file) (demandOf file) x serving n (r .node .attained)
 
   module _ {child : ℕ} (e : child ≡ wordOf s x childWord) where
     below-is : child ≡ firstChild (treeOf file) x
@@ -77,50 +77,50 @@ module _ {file : List ℕ} {sizes : code.Tree} {s : List ℕ} {x server n : ℕ}
       })
 
       pub member-stores : sets (set rows at x) (at + 1) (bestNodes (treeOf file) (demandOf file) child x (n - 1))
-          ≡ sets rows at (nodesFrom (treeOf file) (demandOf file) x server n)
+          ≡ sets rows at (nodesFrom (treeOf file) (demandOf file) x serving n)
       unfolding nodesFrom
       member-stores = rw (sym (r .own) ∙ m, below-is, add-one at)
 
     -- it is none: all among its children
     module _ (m : member ≡ false) where
-      pub other-row : RowToWalk file sizes s child server n at rows
+      pub other-row : RowToWalk file sizes s child serving n at rows
       other-row = rw below-is (record {
         table = r .table;
         row = record {
-          served = children-served-above (treeOf file) (table-sound (r .table) .preorder) x server (r .node .site) (r .node .served);
+          served = children-served-above (treeOf file) (table-sound (r .table) .preorder) x serving (r .node .site) (r .node .served);
           within = r .node .within;
           attained = rw (sym (r .own) ∙ m, sub-zero) at attained .1;
         };
         room = r .room;
       })
 
-      pub other-stores : sets rows at (bestNodes (treeOf file) (demandOf file) child server n)
-          ≡ sets rows at (nodesFrom (treeOf file) (demandOf file) x server n)
+      pub other-stores : sets rows at (bestNodes (treeOf file) (demandOf file) child serving n)
+          ≡ sets rows at (nodesFrom (treeOf file) (demandOf file) x serving n)
       unfolding nodesFrom
       other-stores = rw (sym (r .own) ∙ m, below-is, sub-zero)
 
 -- ---- at a row with m caches
 
-module _ {file : List ℕ} {sizes : code.Tree} {s : List ℕ} {server first count start : ℕ} {old : List ℕ} where
-  pub walk-begins : RowToWalk file sizes s first server count start old
-      → Walked file sizes s server first count start old first count start old
+module _ {file : List ℕ} {sizes : code.Tree} {s : List ℕ} {serving first count start : ℕ} {old : List ℕ} where
+  pub walk-begins : RowToWalk file sizes s first serving count start old
+      → Walked file sizes s serving first count start old first count start old
   walk-begins h = record { here = h; left = refl; smaller = le-refl _; long = refl; stores = refl }
 
-  module _ {x m at : ℕ} {new : List ℕ} (w : Walked file sizes s server first count start old x m at new) where
-    pub walk-ends : m ≤ 0 → (at ≡ start + count) × (new ≡ sets old start (bestNodes (treeOf file) (demandOf file) first server count))
+  module _ {x m at : ℕ} {new : List ℕ} (w : Walked file sizes s serving first count start old x m at new) where
+    pub walk-ends : m ≤ 0 → (at ≡ start + count) × (new ≡ sets old start (bestNodes (treeOf file) (demandOf file) first serving count))
     walk-ends h =
         let none : m ≡ 0 = omega arith in
         let row = rw none at (w .here .row .attained) in
-        (omega (arith, w .left), rw (none, row-without (treeOf file) (demandOf file) x server row) at (w .stores))
+        (omega (arith, w .left), rw (none, row-without (treeOf file) (demandOf file) x serving row) at (w .stores))
 
     module _ (some : 0 < m) where
-      row : RowHas file x server m
+      row : RowHas file x serving m
       row = w .here .row
 
       walked-site : 0 < x
-      walked-site = row-has-node (treeOf file) (demandOf file) x server m some (row .attained)
+      walked-site = row-has-node (treeOf file) (demandOf file) x serving m some (row .attained)
 
-      pub walked-row : RowToSplit file sizes s x server m
+      pub walked-row : RowToSplit file sizes s x serving m
       walked-row = record { table = w .here .table; site = walked-site; row = row }
 
       pub walked-stands : HasNode s x
@@ -135,22 +135,22 @@ module _ {file : List ℕ} {sizes : code.Tree} {s : List ℕ} {server first coun
       children-smaller = omega (arith, row-shrinks, w .smaller)
 
       sibling-is : {next : ℕ} → next ≡ wordOf s x siblingWord → next ≡ nextSibling (treeOf file) x
-      sibling-is f = f ∙ w .here .table .ready .words .sibling x walked-site (row .served .node)
+      sibling-is f = f ∙ w .here .table .stored .words .sibling x walked-site (row .served .node)
 
       pub siblings-smaller : {next : ℕ} → next ≡ wordOf s x siblingWord
           → rowSize (rowAt (treeOf file) next) < rowSize (rowAt (treeOf file) x)
       siblings-smaller f = rw (sibling-is f) (omega (arith, row-shrinks))
 
-      module _ {later : ℕ} (e : later ≡ laterAt (treeOf file) (demandOf file) x server m) where
+      module _ {later : ℕ} (e : later ≡ laterAt (treeOf file) (demandOf file) x serving m) where
         walked-later : later ≤ m
-        walked-later = rw e (later-within (treeOf file) (demandOf file) x server m walked-site (row .served .node) (row .attained))
+        walked-later = rw e (later-within (treeOf file) (demandOf file) x serving m walked-site (row .served .node) (row .attained))
 
-        both-attained : (nodeBestAt (treeOf file) (demandOf file) x server (m - later) < cap)
-            × (bestAt (treeOf file) (demandOf file) (nextSibling (treeOf file) x) server later < cap)
-        both-attained = rw e (row-attained (treeOf file) (demandOf file) x server m walked-site (row .served .node) (row .attained))
+        both-attained : (nodeBestAt (treeOf file) (demandOf file) x serving (m - later) < cap)
+            × (bestAt (treeOf file) (demandOf file) (nextSibling (treeOf file) x) serving later < cap)
+        both-attained = rw e (row-attained (treeOf file) (demandOf file) x serving m walked-site (row .served .node) (row .attained))
 
-        pub walked-node : {member : Bool} → member ≡ takesNode (treeOf file) (demandOf file) x server (m - later)
-            → NodeToWalk file sizes s x server (m - later) member at new
+        pub walked-node : {member : Bool} → member ≡ takesNode (treeOf file) (demandOf file) x serving (m - later)
+            → NodeToWalk file sizes s x serving (m - later) member at new
         walked-node u = record {
           table = w .here .table;
           node = record {
@@ -164,8 +164,8 @@ module _ {file : List ℕ} {sizes : code.Tree} {s : List ℕ} {server first coun
         }
 
         pub walk-turns : {end next : ℕ} {l : List ℕ} → next ≡ wordOf s x siblingWord → end ≡ at + (m - later)
-            → l ≡ sets new at (nodesFrom (treeOf file) (demandOf file) x server (m - later)) → length l ≡ length new
-            → Walked file sizes s server first count start old next later end l
+            → l ≡ sets new at (nodesFrom (treeOf file) (demandOf file) x serving (m - later)) → length l ≡ length new
+            → Walked file sizes s serving first count start old next later end l
         walk-turns f g k long =
             let t = treeOf file in
             let d = demandOf file in
@@ -173,7 +173,7 @@ module _ {file : List ℕ} {sizes : code.Tree} {s : List ℕ} {server first coun
               here = record {
                 table = w .here .table;
                 row = record {
-                  served = siblings-served t (table-sound (w .here .table) .preorder) x server walked-site (row .served);
+                  served = siblings-served t (table-sound (w .here .table) .preorder) x serving walked-site (row .served);
                   within = omega (arith, walked-later, row .within);
                   attained = both-attained .1;
                 };
@@ -182,14 +182,14 @@ module _ {file : List ℕ} {sizes : code.Tree} {s : List ℕ} {server first coun
               left = omega (arith, walked-later, w .left);
               smaller = omega (arith, row-shrinks, w .smaller);
               long = long ∙ w .long;
-              stores = rw (k, g, e) (sym (row-stores t d x server m walked-site (row .served .node) (row .attained) new at) ∙ w .stores);
+              stores = rw (k, g, e) (sym (row-stores t d x serving m walked-site (row .served .node) (row .attained) new at) ∙ w .stores);
             })
 
         -- all are among the later siblings
         pub walk-passes : {next : ℕ} → next ≡ wordOf s x siblingWord → m ≤ later
-            → Walked file sizes s server first count start old next m at new
+            → Walked file sizes s serving first count start old next m at new
         walk-passes f all =
             let same : later ≡ m = omega (arith, walked-later) in
             let none : m - later ≡ 0 = omega arith in
-            let here = node-without (treeOf file) (demandOf file) x server (rw none at (both-attained .0)) in
+            let here = node-without (treeOf file) (demandOf file) x serving (rw none at (both-attained .0)) in
             rw same at (walk-turns {end = at} {l = new} f (omega arith) (rw (none, here)) refl)

@@ -15,7 +15,7 @@ use Rattle.table.specs.Table.{Table}
 abbrev pub planRow : List ℕ → ℕ → List ℕ
 planRow file b = row (budgetOf file) (plan (treeOf file) (demandOf file) b)
 
--- what budget b is written from: the table, and the count found for the budget before it
+-- what budget b is written from: the table, and how many caches the budget before it has
 pub record Budget (file : List ℕ) (sizes : code.Tree) (s : List ℕ) (b last : ℕ) : Type 0 where
   pub table : Table file sizes s
   pub within : b ≤ budgetOf file

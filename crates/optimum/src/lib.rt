@@ -1,4 +1,4 @@
-// The plan: for each budget the caches of the least total, first in the order of ties, read out of the table.
+// The plan: for each budget the caches of the least total, first in the order of ties, read back from the table.
 ghost use mathlib.Core.Path.{_≡_};
 ghost use mathlib.Core.Bool.{_&&_};
 ghost use Prim.Native.Nat.{suc, _+_, _-_, _*_, _≤_, _<_};
@@ -21,7 +21,7 @@ use tree_file::Checked;
 use tree_file::Ruling;
 use units::Total;
 
-// Of the caches of a row: how many are among the later siblings, and whether the first node is one of the others.
+// How the caches of a row split: how many are among the later siblings, and whether the first node is one of the others.
 struct Split {
     later: usize,
     member: bool,
@@ -29,7 +29,7 @@ struct Split {
 
 // ---- the walk through the table
 
-// Of m caches the most that can be at or below x: if x has a next sibling, as many as there are nodes from x up to it.
+// The most of m caches that can be at or below x: if x has a next sibling, as many as there are nodes from x up to that sibling.
 fn most_below(x: usize, sibling: usize, m: usize) -> usize
     ensures { λ r. ⌜ MostBelow x sibling m r ⌝ }
 {
@@ -40,25 +40,25 @@ fn most_below(x: usize, sibling: usize, m: usize) -> usize
     if nodes < m { nodes } else { m }
 }
 
-// How the m caches of the row that begins with x split.
-fn split_of(file: &[u8], tree: fields::Tree, s: &[u64], x: usize, server: usize, m: usize) -> Split
-    requires { ⌜ RowToSplit (now file) tree (now s) x server m ⌝ }
-    ensures { λ r. ⌜ r .later ≡ laterAt (treeOf (now (file .entry))) (demandOf (now (file .entry))) x server m ⌝ }
-    ensures { λ r. ⌜ r .member ≡ takesNode (treeOf (now (file .entry))) (demandOf (now (file .entry))) x server (m - r .later) ⌝ }
+// How the m caches of the row that begins with x split, where `serving` is the serving node above it.
+fn split_of(file: &[u8], tree: fields::Tree, s: &[u64], x: usize, serving: usize, m: usize) -> Split
+    requires { ⌜ RowToSplit (now file) tree (now s) x serving m ⌝ }
+    ensures { λ r. ⌜ r .later ≡ laterAt (treeOf (now (file .entry))) (demandOf (now (file .entry))) x serving m ⌝ }
+    ensures { λ r. ⌜ r .member ≡ takesNode (treeOf (now (file .entry))) (demandOf (now (file .entry))) x serving (m - r .later) ⌝ }
 {
-    let above = node_words::depth_word(s, server);
+    let above = node_words::depth_word(s, serving);
     let child = node_words::child_of(s, x);
-    let taken = table::line(s, tree, child, node_words::depth_word(s, x));
-    let spare = table::line(s, tree, child, above);
+    let cached = table::line(s, tree, child, node_words::depth_word(s, x));
+    let uncached = table::line(s, tree, child, above);
     let sibling = node_words::sibling_of(s, x);
     let rest = table::line(s, tree, sibling, above);
     let member = table::pays(file, s, x, x);
-    let other = table::pays(file, s, x, server);
+    let other = table::pays(file, s, x, serving);
     let most = most_below(x, sibling, m);
-    let later = lines::later(taken, spare, rest, member, other, m, most);
+    let later = lines::later(cached, uncached, rest, member, other, m, most);
     Split {
         later,
-        member: lines::takes(taken, spare, member, other, m - later),
+        member: lines::takes(cached, uncached, member, other, m - later),
     }
 }
 
@@ -69,21 +69,21 @@ fn walk_node(
     s: &[u64],
     rows: &mut [u16],
     x: usize,
-    server: usize,
+    serving: usize,
     n: usize,
     member: bool,
     at: usize,
 ) -> usize
-    requires { ⌜ NodeToWalk (now file) tree (now s) x server n member at (now rows) ⌝ }
+    requires { ⌜ NodeToWalk (now file) tree (now s) x serving n member at (now rows) ⌝ }
     ensures { λ r. ⌜ r ≡ at + n ⌝ }
-    ensures { λ _. ⌜ now (rows .exit) ≡ sets (now (rows .entry)) at (nodesFrom (treeOf (now (file .entry))) (demandOf (now (file .entry))) x server n) ⌝ }
+    ensures { λ _. ⌜ now (rows .exit) ≡ sets (now (rows .entry)) at (nodesFrom (treeOf (now (file .entry))) (demandOf (now (file .entry))) x serving n) ⌝ }
 {
     let child = node_words::child_of(s, x);
     if member {
         rows[at] = x as u16;
         return walk_row(file, tree, s, rows, child, x, n - 1, at + 1);
     }
-    walk_row(file, tree, s, rows, child, server, n, at)
+    walk_row(file, tree, s, rows, child, serving, n, at)
 }
 
 // Writes the `count` caches of the row that begins with `first` from `start` on, and returns where they end.
@@ -93,22 +93,22 @@ fn walk_row(
     s: &[u64],
     rows: &mut [u16],
     first: usize,
-    server: usize,
+    serving: usize,
     count: usize,
     start: usize,
 ) -> usize
-    requires { ⌜ RowToWalk (now file) tree (now s) first server count start (now rows) ⌝ }
+    requires { ⌜ RowToWalk (now file) tree (now s) first serving count start (now rows) ⌝ }
     ensures { λ r. ⌜ r ≡ start + count ⌝ }
-    ensures { λ _. ⌜ now (rows .exit) ≡ sets (now (rows .entry)) start (bestNodes (treeOf (now (file .entry))) (demandOf (now (file .entry))) first server count) ⌝ }
+    ensures { λ _. ⌜ now (rows .exit) ≡ sets (now (rows .entry)) start (bestNodes (treeOf (now (file .entry))) (demandOf (now (file .entry))) first serving count) ⌝ }
 {
     let mut x = first;
     let mut m = count;
     let mut at = start;
     while 0 < m {
-        let split = split_of(file, tree, s, x, server, m);
+        let split = split_of(file, tree, s, x, serving, m);
         let later = split.later;
         if later < m {
-            at = walk_node(file, tree, s, rows, x, server, m - later, split.member, at);
+            at = walk_node(file, tree, s, rows, x, serving, m - later, split.member, at);
             m = later;
         }
         x = node_words::sibling_of(s, x);
@@ -118,7 +118,7 @@ fn walk_row(
 
 // ---- the plan, budget by budget
 
-// The better of two counts by the line: the last one, unless the next costs less.
+// The better of two numbers of caches by the entries of a line: `last`, unless `next` costs less.
 fn better_count(line: &[u64], last: usize, next: usize) -> usize
     requires { ⌜ (last < length (now line)) × (next < length (now line)) ⌝ }
     ensures { λ r. ⌜ r ≡ better (λ n. getD (now (line .entry)) n 0) last next ⌝ }
@@ -130,7 +130,7 @@ fn better_count(line: &[u64], last: usize, next: usize) -> usize
     }
 }
 
-// Zeros from `start` up to `end`.
+// Stores zeros from `start` up to `end`.
 fn clear(rows: &mut [u16], start: usize, end: usize)
     requires { ⌜ (start ≤ end) × (end ≤ length (now rows)) ⌝ }
     ensures { λ _. ⌜ now (rows .exit) ≡ sets (now (rows .entry)) start (replicate (end - start) 0) ⌝ }
@@ -152,7 +152,7 @@ fn write_row(file: &[u8], tree: fields::Tree, s: &[u64], rows: &mut [u16], m: us
     clear(rows, end, at + tree.budget);
 }
 
-// Writes the total and the row of budget b, and returns how many caches it takes; `last` is the budget before.
+// Writes the total and the row of budget b, and returns how many caches it has; `last` is how many the budget before has.
 fn write_budget(
     file: &[u8],
     tree: fields::Tree,
@@ -190,7 +190,7 @@ fn write_plan(file: &[u8], tree: fields::Tree, s: &[u64], totals: &mut [u64], ro
     }
 }
 
-// The table made in the scratch, and the plan written from it.
+// Fills the table in the scratch, and writes the plan from it.
 pub fn make_plan(
     file: &[u8],
     tree: fields::Tree,

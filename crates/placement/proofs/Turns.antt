@@ -12,7 +12,7 @@ use Rattle.model.specs.File.{Tree, Demand, treeOf, demandOf}
 use Rattle.placement.specs.Passes.{selfServing, Walkable}
 use Rattle.placement.specs.Walks.{Begins, NodeWalked, RowWalked, Bounded, Raised}
 use Rattle.placement.proofs.Walks.{row-begins, row-at-end, row-stops, row-begins-again, row-goes-on, node-walked}
-use Rattle.placement.proofs.Sizes.{relief-bound, node-load-bound, row-load-bound}
+use Rattle.placement.proofs.RowNodes.{relief-bound, node-load-bound, row-load-bound}
 
 -- a site is a member just if it serves itself
 pub self-serving-member : (n : ℕ) (servings : List ℕ) (v : ℕ) → 1 ≤ v → v < n → eqb (getD servings v 0) v ≡ has (selfServing n servings) v

@@ -19,8 +19,8 @@ use Rattle.tree_file.specs.Checks.{sizesOf}
 use Rattle.lent.specs.Lent.{lentVerdict}
 use Rattle.lent.proofs.Asked.{lent-told, refused-before-buffers, buffers-decide}
 use Rattle.optimum.proofs.Answers.{plan-room, plan-long, totals-after, rows-after}
-use Rattle.greedy.specs.Run.{Ran}
-use Rattle.greedy.proofs.Answers.{nodes-fit, greedy-granted}
+use Rattle.greedy.specs.Run.{GreedyWritten}
+use Rattle.greedy.proofs.Answers.{nodes-fit, greedy-room}
 use Rattle.report.specs.Made.{ReportRoom, Made}
 
 -- ---- both answers
@@ -28,7 +28,7 @@ use Rattle.report.specs.Made.{ReportRoom, Made}
 pub both-made : {file : List ℕ} {sizes : code.Tree} {scratch totals rows greedys taken mid scratch′ totals′ rows′ greedys′ taken′ : List ℕ}
     → ReportRoom file sizes scratch totals rows greedys taken → FrontOnly (scratchWords file) scratch mid
     → totals′ ≡ sets totals 0 (planTotals file) → rows′ ≡ sets rows 0 (planRows file)
-    → Ran file (sizes .nodes) mid greedys taken scratch′ greedys′ taken′
+    → GreedyWritten file (sizes .nodes) mid greedys taken scratch′ greedys′ taken′
     → Made file scratch totals rows greedys taken scratch′ totals′ rows′ greedys′ taken′
 both-made {file} {sizes} l f t r ran =
     let count : sizes .nodes ≡ _ = l .forGreedy .room .count in
@@ -37,7 +37,7 @@ both-made {file} {sizes} l f t r ran =
       totalsAfter = totals-after (l .planLong) t;
       rowsAfter = rows-after (l .planLong) r;
       greedysAfter = ran .totalsAfter;
-      takenAfter = ran .takenAfter;
+      takenAfter = ran .nodesAfter;
     }
 
 -- ---- each answer
@@ -85,7 +85,7 @@ module _ (file scratch totals rows greedys taken : List ℕ) where
           record {
             forPlan = plan-room file scratch e;
             planLong = plan-long file scratch totals rows e (fit .0);
-            forGreedy = greedy-granted file scratch greedys taken e (fit .1);
+            forGreedy = greedy-room file scratch greedys taken e (fit .1);
           }
 
       -- all rules hold

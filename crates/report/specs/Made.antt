@@ -8,13 +8,13 @@ use Rattle.model.specs.Calls.{after, planTotals, planRows, greedyTotals, greedy
 use Rattle.fields.specs.declared.Tree as code
 use Rattle.table.specs.Table.{TableRoom}
 use Rattle.optimum.specs.Budgets.{Buffers}
-use Rattle.greedy.specs.Run.{Granted}
+use Rattle.greedy.specs.Run.{GreedyRoom}
 
 -- an accepted file with its sizes, and room for both answers
 pub record ReportRoom (file : List ℕ) (sizes : code.Tree) (scratch totals rows greedys taken : List ℕ) : Type 0 where
   pub forPlan : TableRoom file sizes scratch
   pub planLong : Buffers file totals rows
-  pub forGreedy : Granted file (sizes .nodes) (sizes .budget) scratch greedys taken
+  pub forGreedy : GreedyRoom file (sizes .nodes) (sizes .budget) scratch greedys taken
 
 -- both answers stand in their buffers, and of the scratch only the words that rule 13 asks for were used
 pub record Made (file scratch totals rows greedys taken scratch′ totals′ rows′ greedys′ taken′ : List ℕ) : Type 0 where

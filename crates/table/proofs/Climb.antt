@@ -32,5 +32,5 @@ module _ {file : List ℕ} {sizes : code.Tree} {v : ℕ} {s : List ℕ} (r : Tab
         site = site;
         node = omega (arith, room-count r);
         above = above;
-        server = p ∙ ap (treeOf file .parent) (e ∙ ap (ancestorAt (treeOf file) v) next) ∙ ancestor-up (treeOf file) (room-sound r .preorder) v (a - 1) above;
+        ancestor = p ∙ ap (treeOf file .parent) (e ∙ ap (ancestorAt (treeOf file) v) next) ∙ ancestor-up (treeOf file) (room-sound r .preorder) v (a - 1) above;
       }

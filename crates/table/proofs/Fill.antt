@@ -1,4 +1,4 @@
--- Laws of the fill: where it begins, one line more, one node more, and the whole table.
+-- Laws of how the table is filled: before the first line, one line more, one node more, and the whole table.
 use mathlib.Core.Path.{_≡_, refl, sym, ap, _∙_}
 use mathlib.Core.List.{List, map}
 use mathlib.Core.Logic.{inl, inr, ⊎-elim}
@@ -16,12 +16,12 @@ use Rattle.model.specs.File.{treeOf, demandOf}
 use Rattle.model.specs.Tree.{depth}
 use Rattle.model.specs.Rules.{scratchWords}
 use Rattle.fields.specs.declared.Tree as code
-use Rattle.node_words.specs.Words.{NodeWords}
-use Rattle.lines.specs.Line.{emptyCell}
-use Rattle.table.specs.Table.{width, lineNumber, lineAt, tableEnd, lineFor, FilledFrom, TableRoom, Ready, TableFrom, Made, Served, EmptyTo}
+use Rattle.node_words.specs.Words.{nodeWords, NodeWords}
+use Rattle.lines.specs.Line.{emptyBest}
+use Rattle.table.specs.Table.{width, lineNumber, lineAt, tableEnd, lineFor, FilledFrom, TableRoom, NodeWordsStored, TableFrom, LinesFilled, Served, EmptyTo}
 use Rattle.table.proofs.Places.{stored-line, other-line, words-stay, behind-stays}
 use Rattle.table.proofs.Lines.{length-line-for, line-for-empty}
-use Rattle.table.proofs.Room.{room-count, room-end, room-long, room-depth, room-kept, ready-same}
+use Rattle.table.proofs.Room.{room-count, room-end, room-long, room-depth, room-kept, stored-same}
 
 -- ---- the empty row's lines
 
@@ -30,10 +30,10 @@ module _ (sizes : code.Tree) where
   empty-begins s = record { lines = λ a h. absurd (omega arith); words = refl; front = front-only-none _ s }
 
   pub empty-turns : {a : ℕ} {s r l : List ℕ} → EmptyTo sizes a s r → 0 < sizes .nodes → a ≤ sizes .height → tableEnd sizes ≤ length s
-      → l ≡ sets r (lineAt sizes 0 a) (map emptyCell (range 0 (width sizes))) → EmptyTo sizes (a + 1) s l
+      → l ≡ sets r (lineAt sizes 0 a) (map emptyBest (range 0 (width sizes))) → EmptyTo sizes (a + 1) s l
   empty-turns {a} {s} {r} {l} so some h room e =
-      let new = map emptyCell (range 0 (width sizes)) in
-      let long = length-of-range emptyCell 0 (width sizes) in
+      let new = map emptyBest (range 0 (width sizes)) in
+      let long = length-of-range emptyBest 0 (width sizes) in
       rw e (record {
         lines = λ b k.
             elim (ℕ-discrete b a) [
@@ -45,12 +45,12 @@ module _ (sizes : code.Tree) where
       })
 
 module _ {file : List ℕ} {sizes : code.Tree} where
-  -- with them the table begins
-  pub table-begins : {s l : List ℕ} → Ready file sizes s → EmptyTo sizes (sizes .height + 1) s l → Made file sizes (lineNumber sizes (sizes .nodes) 0) s l
+  -- with them the table is filled as far as the last node
+  pub table-begins : {s l : List ℕ} → NodeWordsStored file sizes s → EmptyTo sizes (sizes .height + 1) s l → LinesFilled file sizes (lineNumber sizes (sizes .nodes) 0) s l
   unfolding FilledFrom
   table-begins {s} {l} r so = record {
     table = record {
-      ready = ready-same (so .front .long) (so .words) r;
+      stored = stored-same (so .front .long) (so .words) r;
       lines = λ x a h k _ later.
           let none : x ≡ 0 =
           ⊎-elim (λ z. z) (λ g. let last : a < sizes .height + 1 = omega arith in absurd (omega (arith, row-within h last))) later in
@@ -64,11 +64,11 @@ module _ {file : List ℕ} {sizes : code.Tree} where
   pub next-line : (v : ℕ) {a : ℕ} {s : List ℕ} → 0 < a → TableFrom file sizes s (lineNumber sizes v a) → TableFrom file sizes s (lineNumber sizes v (a - 1) + 1)
   next-line v {a} h r = let e : lineNumber sizes v (a - 1) + 1 ≡ lineNumber sizes v a = omega arith in rw e r
 
-  pub line-made : {v a u : ℕ} {s l : List ℕ} → TableFrom file sizes s (lineNumber sizes v a + 1) → Served (treeOf file) v a u
-      → l ≡ sets s (lineAt sizes v a) (lineFor (treeOf file) (demandOf file) (width sizes) v a) → Made file sizes (lineNumber sizes v a) s l
+  pub line-filled : {v a u : ℕ} {s l : List ℕ} → TableFrom file sizes s (lineNumber sizes v a + 1) → Served (treeOf file) v a u
+      → l ≡ sets s (lineAt sizes v a) (lineFor (treeOf file) (demandOf file) (width sizes) v a) → LinesFilled file sizes (lineNumber sizes v a) s l
   unfolding FilledFrom
-  line-made {v} {a} {u} {s} {l} r at e =
-      let room = r .ready .room in
+  line-filled {v} {a} {u} {s} {l} r at e =
+      let room = r .stored .room in
       let new = lineFor (treeOf file) (demandOf file) (width sizes) v a in
       let long = length-line-for (treeOf file) (demandOf file) (width sizes) v a in
       let node : v < sizes .nodes = omega (arith, at .node, room-count room) in
@@ -76,7 +76,7 @@ module _ {file : List ℕ} {sizes : code.Tree} where
       let front = behind-stays sizes s new v a long node above in
       rw e (record {
         table = record {
-          ready = ready-same (front .long) (words-stay sizes s new v a long) (r .ready);
+          stored = stored-same (front .long) (words-stay sizes s new v a long) (r .stored);
           lines = λ x b h k has later.
               elim (ℕ-discrete (lineNumber sizes x b) (lineNumber sizes v a)) [
                 | yes z ↦
@@ -97,7 +97,7 @@ module _ {file : List ℕ} {sizes : code.Tree} where
       → TableFrom file sizes s (lineNumber sizes v (depth (treeOf file) v))
   unfolding FilledFrom
   node-begins v {s} r = record {
-    ready = r .ready;
+    stored = r .stored;
     lines = λ x a h k has later.
         r .lines x a h k has
         (⊎-elim (λ none. inl none) (λ g. ⊎-elim (λ none. inl none) (λ b.
@@ -115,11 +115,11 @@ module _ {file : List ℕ} {sizes : code.Tree} where
   next-node {v} h r = let e : v - 1 + 1 ≡ v = omega arith in rw e r
 
   -- node 1 is the first that has a line
-  pub table-whole : {s l : List ℕ} → Made file sizes (lineNumber sizes 1 0) s l → Made file sizes 0 s l
+  pub table-whole : {s l : List ℕ} → LinesFilled file sizes (lineNumber sizes 1 0) s l → LinesFilled file sizes 0 s l
   unfolding FilledFrom
   table-whole {s} {l} m = record {
     table = record {
-      ready = m .table .ready;
+      stored = m .table .stored;
       lines = λ x a h k has _.
           m .table .lines x a h k has
           (elim (decLt 0 x) [
@@ -132,17 +132,17 @@ module _ {file : List ℕ} {sizes : code.Tree} where
 
   -- ---- the words before it
 
-  pub words-made : {s l : List ℕ} → TableRoom file sizes s → NodeWords (treeOf file) l → FrontOnly (4 * sizes .nodes) s l → Ready file sizes l
-  words-made r w f = record { room = room-kept r (f .long); words = w }
+  pub words-stored : {s l : List ℕ} → TableRoom file sizes s → NodeWords (treeOf file) l → FrontOnly (nodeWords * sizes .nodes) s l → NodeWordsStored file sizes l
+  words-stored r w f = record { room = room-kept r (f .long); words = w }
 
-  pub words-front : {s l : List ℕ} → TableRoom file sizes s → FrontOnly (4 * sizes .nodes) s l → FrontOnly (scratchWords file) s l
+  pub words-front : {s l : List ℕ} → TableRoom file sizes s → FrontOnly (nodeWords * sizes .nodes) s l → FrontOnly (scratchWords file) s l
   unfolding tableEnd
   words-front r f = front-only-wider (omega (arith, room-end r)) f
 
   -- ---- one after the other
 
-  pub made-none : {i : ℕ} {s : List ℕ} → TableFrom file sizes s i → Made file sizes i s s
-  made-none r = record { table = r; front = front-only-none _ _ }
+  pub filled-none : {i : ℕ} {s : List ℕ} → TableFrom file sizes s i → LinesFilled file sizes i s s
+  filled-none r = record { table = r; front = front-only-none _ _ }
 
-  pub made-then : {i j : ℕ} {s r l : List ℕ} → Made file sizes i s r → Made file sizes j r l → Made file sizes j s l
-  made-then m n = record { table = n .table; front = front-only-then _ (m .front) (n .front) }
+  pub filled-then : {i j : ℕ} {s r l : List ℕ} → LinesFilled file sizes i s r → LinesFilled file sizes j r l → LinesFilled file sizes j s l
+  filled-then m n = record { table = n .table; front = front-only-then _ (m .front) (n .front) }

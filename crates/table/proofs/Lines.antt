@@ -16,25 +16,25 @@ use Rattle.model.specs.File.{Tree, Demand, mostNodes}
 use Rattle.model.specs.Bill.{price}
 use Rattle.model.specs.Accepted.{Sound}
 use Rattle.best_rows.specs.Rows.{rowSize}
-use Rattle.best_rows.specs.Best.{cell, best}
+use Rattle.best_rows.specs.Best.{rowBest, best}
 use Rattle.best_rows.specs.TreeRows.{firstChild, nextSibling, rowAt}
 use Rattle.best_rows.specs.BestAt.{one, prefer, site, bestAt, childrenAt}
 use Rattle.best_rows.proofs.TreeRows.{row-at-none, row-at-node}
 use Rattle.best_rows.proofs.Table.{best-at-within-cap, best-at-over}
 use Rattle.node_words.specs.Ancestors.{ancestorAt}
-use Rattle.lines.specs.Line.{LineParts, RowBounds, lineCell, emptyCell}
-use Rattle.lines.proofs.Known.{Known, known-parts, known-bounds, known-line, empty-is-best}
+use Rattle.lines.specs.Line.{LineParts, RowBounds, lineBest, emptyBest, LinesHoldBest}
+use Rattle.lines.proofs.HeldBest.{held-parts, held-bounds, held-line, empty-is-best}
 use Rattle.table.specs.Table.{lineFor, Served}
 use Rattle.table.proofs.Prices.{price-within-cap}
 
 module _ (t : Tree) (d : Demand) where
   -- the row that begins with v, from those of its children and its later siblings
-  best-at-cell : (v c m : ℕ) → 0 < v → v < t .count
-      → bestAt t d v c m ≡ cell bit prefer (site t d v .pay c) (childrenAt t d v c) (bestAt t d (nextSibling t v) c) m
+  best-at-row-best : (v c m : ℕ) → 0 < v → v < t .count
+      → bestAt t d v c m ≡ rowBest bit prefer (site t d v .pay c) (childrenAt t d v c) (bestAt t d (nextSibling t v) c) m
   unfolding bestAt best
-  best-at-cell v c m h k = ap (λ r. best one prefer (site t d) r c m) (row-at-node t v h k)
+  best-at-row-best v c m h k = ap (λ r. best one prefer (site t d) r c m) (row-at-node t v h k)
 
-  best-at-empty : (c m : ℕ) → bestAt t d 0 c m ≡ emptyCell m
+  best-at-empty : (c m : ℕ) → bestAt t d 0 c m ≡ emptyBest m
   unfolding bestAt
   best-at-empty c m = rw (row-at-none t) (sym (empty-is-best one prefer (site t d) c m))
 
@@ -43,36 +43,36 @@ module _ (t : Tree) (d : Demand) where
     unfolding lineFor
     length-line-for x a = length-of-range _ 0 w
 
-    empty-under : (c : ℕ) → map (bestAt t d 0 c) (range 0 w) ≡ map emptyCell (range 0 w)
+    empty-under : (c : ℕ) → map (bestAt t d 0 c) (range 0 w) ≡ map emptyBest (range 0 w)
     empty-under c = same-on-range _ _ 0 w (λ m _ _. best-at-empty c m)
 
-    -- the empty row's: 0, then no choice
-    pub line-for-empty : (a : ℕ) → lineFor t d w 0 a ≡ map emptyCell (range 0 w)
+    -- the empty row's line: 0 without caches, the cap with any
+    pub line-for-empty : (a : ℕ) → lineFor t d w 0 a ≡ map emptyBest (range 0 w)
     unfolding lineFor
     line-for-empty a = empty-under (ancestorAt t 0 a)
 
-    -- that of a row under u, which serves it from above
+    -- the line of a row with u as the serving node
     pub line-under : (c a u : ℕ) → (c ≡ 0) ⊎ (ancestorAt t c a ≡ u) → lineFor t d w c a ≡ map (bestAt t d c u) (range 0 w)
     unfolding lineFor
     line-under c a u (inl e) = rw e (line-for-empty a ∙ sym (empty-under u))
     line-under c a u (inr e) = rw e
 
     -- the line of node v from those of its children, with v as a cache and without, and of its later siblings
-    pub line-joined : (v a u : ℕ) (taken spare rest : List ℕ) → 0 < v → v < t .count → u ≡ ancestorAt t v a
-        → Known w (childrenAt t d v u) (bestAt t d (nextSibling t v) u) taken spare rest
-        → map (lineCell taken spare rest (price t d v v) (price t d v u)) (range 0 w) ≡ lineFor t d w v a
+    line-joined : (v a u : ℕ) (cached uncached rest : List ℕ) → 0 < v → v < t .count → u ≡ ancestorAt t v a
+        → LinesHoldBest w (childrenAt t d v u) (bestAt t d (nextSibling t v) u) cached uncached rest
+        → map (lineBest cached uncached rest (price t d v v) (price t d v u)) (range 0 w) ≡ lineFor t d w v a
     unfolding lineFor
-    line-joined v a u taken spare rest h k e known =
-        known-line w (site t d v .pay u) (childrenAt t d v u) (bestAt t d (nextSibling t v) u) taken spare rest known
-        ∙ same-on-range _ _ 0 w (λ m _ _. sym (best-at-cell v u m h k) ∙ ap (λ c. bestAt t d v c m) e)
+    line-joined v a u cached uncached rest h k e held =
+        held-line w (site t d v .pay u) (childrenAt t d v u) (bestAt t d (nextSibling t v) u) cached uncached rest held
+        ∙ same-on-range _ _ 0 w (λ m _ _. sym (best-at-row-best v u m h k) ∙ ap (λ c. bestAt t d v c m) e)
 
     -- the same, of what the code made
-    pub line-read : {v a u n member other : ℕ} {taken spare rest : List ℕ} (l : List ℕ) → Served t v a u
-        → Known w (childrenAt t d v u) (bestAt t d (nextSibling t v) u) taken spare rest
+    pub line-read : {v a u n member other : ℕ} {cached uncached rest : List ℕ} (l : List ℕ) → Served t v a u
+        → LinesHoldBest w (childrenAt t d v u) (bestAt t d (nextSibling t v) u) cached uncached rest
         → n ≡ w → member ≡ price t d v v → other ≡ price t d v u
-        → l ≡ map (lineCell taken spare rest member other) (range 0 n) → l ≡ lineFor t d w v a
-    line-read {v} {a} {u} {taken = taken} {spare = spare} {rest = rest} l at known e m o h =
-        (rw (e, m, o) at h) ∙ line-joined v a u taken spare rest (at .site) (at .node) (at .server) known
+        → l ≡ map (lineBest cached uncached rest member other) (range 0 n) → l ≡ lineFor t d w v a
+    line-read {v} {a} {u} {cached = cached} {uncached = uncached} {rest = rest} l at held e m o h =
+        (rw (e, m, o) at h) ∙ line-joined v a u cached uncached rest (at .site) (at .node) (at .ancestor) held
 
     -- and where it was lent to be made, it was stored
     pub line-put : (v a at n : ℕ) {l : List ℕ} (s : List ℕ) → at + n ≤ length s → n ≡ w → l ≡ lineFor t d w v a
@@ -81,20 +81,20 @@ module _ (t : Tree) (d : Demand) where
         rw (is, add-sub-cancel-left at n) (sets-part s at (lineFor t d w v a) n (omega (arith, length-line-for v a)) h)
 
     -- what the code makes it from
-    pub parts-read : {v a u n member other : ℕ} {taken spare rest : List ℕ} → Sound t d → Served t v a u
-        → Known w (childrenAt t d v u) (bestAt t d (nextSibling t v) u) taken spare rest
-        → n ≡ w → member ≡ price t d v v → other ≡ price t d v u → LineParts n taken spare rest member other
-    parts-read {v} {a} {u} {taken = taken} {spare = spare} {rest = rest} ok at known e m o =
+    pub parts-read : {v a u n member other : ℕ} {cached uncached rest : List ℕ} → Sound t d → Served t v a u
+        → LinesHoldBest w (childrenAt t d v u) (bestAt t d (nextSibling t v) u) cached uncached rest
+        → n ≡ w → member ≡ price t d v v → other ≡ price t d v u → LineParts n cached uncached rest member other
+    parts-read {v} {a} {u} {cached = cached} {uncached = uncached} {rest = rest} ok at held e m o =
         rw (e, m, o)
-        (known-parts w (site t d v .pay u) (childrenAt t d v u) (bestAt t d (nextSibling t v) u) taken spare rest known
+        (held-parts w (site t d v .pay u) (childrenAt t d v u) (bestAt t d (nextSibling t v) u) cached uncached rest held
         (λ b. price-within-cap t d ok v (cond b v u)) (λ b. best-at-within-cap t d (firstChild t v) (cond b v u)) (best-at-within-cap t d (nextSibling t v) u))
 
-    -- and how many caches its parts can have
-    pub bounds-read : {v a u n below after : ℕ} {taken spare rest : List ℕ} → Served t v a u
-        → Known w (childrenAt t d v u) (bestAt t d (nextSibling t v) u) taken spare rest
+    -- and how many caches fit in its parts
+    pub bounds-read : {v a u n below after : ℕ} {cached uncached rest : List ℕ} → Served t v a u
+        → LinesHoldBest w (childrenAt t d v u) (bestAt t d (nextSibling t v) u) cached uncached rest
         → n ≡ w → below ≡ rowSize (rowAt t (firstChild t v)) → after ≡ rowSize (rowAt t (nextSibling t v))
-        → (below < mostNodes) × (after < mostNodes) → RowBounds n taken spare rest below after
-    bounds-read {v} {a} {u} {taken = taken} {spare = spare} {rest = rest} at known e b f few =
+        → (below < mostNodes) × (after < mostNodes) → RowBounds n cached uncached rest below after
+    bounds-read {v} {a} {u} {cached = cached} {uncached = uncached} {rest = rest} at held e b f few =
         rw e
-        (known-bounds w (site t d v .pay u) (childrenAt t d v u) (bestAt t d (nextSibling t v) u) taken spare rest known few
+        (held-bounds w (site t d v .pay u) (childrenAt t d v u) (bestAt t d (nextSibling t v) u) cached uncached rest held few
         (λ x n h. best-at-over t d (firstChild t v) (cond x v u) n (omega arith)) (λ n h. best-at-over t d (nextSibling t v) u n (omega arith)))

@@ -12,6 +12,7 @@ use Rattle.laws.proofs.Numbers.{row-before, row-within}
 use Rattle.laws.proofs.Stores.{drop-sets, take-sets, part-after, part-before, part-same}
 use Rattle.model.specs.File.{mostNodes, mostDepth}
 use Rattle.fields.specs.declared.Tree as code
+use Rattle.node_words.specs.Words.{nodeWords}
 use Rattle.lines.specs.Line.{mostWidth}
 use Rattle.table.specs.Table.{width, lineNumber, lineAt, tableEnd, InTable, lineIn}
 
@@ -27,7 +28,7 @@ module _ (sizes : code.Tree) where
       let last : a < sizes .height + 1 = omega arith in
       omega (arith, row-before (width sizes) (row-within h last))
 
-  words-before : (x a : ℕ) → 4 * sizes .nodes ≤ lineAt sizes x a
+  words-before : (x a : ℕ) → nodeWords * sizes .nodes ≤ lineAt sizes x a
   unfolding lineAt
   words-before x a = omega arith
 
@@ -53,8 +54,8 @@ module _ (sizes : code.Tree) where
         ]
 
     -- the words of the nodes stay
-    pub words-stay : take (4 * sizes .nodes) stored ≡ take (4 * sizes .nodes) s
-    words-stay = take-sets (4 * sizes .nodes) s (lineAt sizes v a) l (words-before v a)
+    pub words-stay : take (nodeWords * sizes .nodes) stored ≡ take (nodeWords * sizes .nodes) s
+    words-stay = take-sets (nodeWords * sizes .nodes) s (lineAt sizes v a) l (words-before v a)
 
     -- and what stands behind the table
     pub behind-stays : v < sizes .nodes → a ≤ sizes .height → FrontOnly (tableEnd sizes) s stored

@@ -45,7 +45,7 @@ module _ {file s : List ℕ} {v u : ℕ} (r : Client file s v u) where
 
   pub saved-read : {f x : ℕ} → f ≡ demandOf file .flow v * demandOf file .hit v → x ≡ wordOf s u distanceWord
       → f * x ≡ demandOf file .flow v * demandOf file .hit v * distance (treeOf file) u
-  saved-read e g = ap₂ _*_ e (g ∙ r .words .distance u (r .server))
+  saved-read e g = ap₂ _*_ e (g ∙ r .words .distance u (r .serving))
 
   -- all fits in 64 bits, and the part saved is no more
   pub all-fits : demandOf file .flow v * thousandths * distance (treeOf file) v < 2 ^ 64

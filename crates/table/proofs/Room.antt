@@ -12,10 +12,10 @@ use Rattle.model.proofs.Accepted.{accepted-header, accepted-sound}
 use Rattle.model.proofs.Bounds.{height-bound}
 use Rattle.model.proofs.Depths.{depth-within-height}
 use Rattle.fields.specs.declared.Tree as code
-use Rattle.node_words.specs.Words.{HasNode, NodeRoom}
-use Rattle.node_words.specs.Sizes.{FileWords}
+use Rattle.node_words.specs.Words.{nodeWords, HasNode, NodeRoom}
+use Rattle.node_words.specs.RowNodes.{FileWords}
 use Rattle.node_words.proofs.Words.{node-words-same}
-use Rattle.table.specs.Table.{tableEnd, InTable, TableRoom, Ready, Client}
+use Rattle.table.specs.Table.{tableEnd, InTable, TableRoom, NodeWordsStored, Client}
 
 module _ {file : List ℕ} {sizes : code.Tree} {s : List ℕ} (r : TableRoom file sizes s) where
   pub room-sound : Sound (treeOf file) (demandOf file)
@@ -59,27 +59,27 @@ module _ {file : List ℕ} {sizes : code.Tree} {s : List ℕ} (r : TableRoom fil
   pub room-kept : {l : List ℕ} → length l ≡ length s → TableRoom file sizes l
   room-kept e = record { accepted = r .accepted; of-file = r .of-file; room = omega (arith, r .room) }
 
-module _ {file : List ℕ} {sizes : code.Tree} {s : List ℕ} (r : Ready file sizes s) where
-  pub ready-node : {x : ℕ} → x < sizes .nodes → HasNode s x
-  ready-node h = omega (arith, room-nodes (r .room) .room)
+module _ {file : List ℕ} {sizes : code.Tree} {s : List ℕ} (r : NodeWordsStored file sizes s) where
+  pub stored-node : {x : ℕ} → x < sizes .nodes → HasNode s x
+  stored-node h = omega (arith, room-nodes (r .room) .room)
 
-  pub ready-words : FileWords file (sizes .nodes) s
-  ready-words = record { nodes = room-nodes (r .room); stand = r .words }
+  pub stored-words : FileWords file (sizes .nodes) s
+  stored-words = record { nodes = room-nodes (r .room); stand = r .words }
 
   -- a node and one that can serve it
-  pub ready-client : {v u : ℕ} → v < sizes .nodes → u ≤ v → distance (treeOf file) u ≤ distance (treeOf file) v → Client file s v u
-  ready-client h k near =
+  pub stored-client : {v u : ℕ} → v < sizes .nodes → u ≤ v → distance (treeOf file) u ≤ distance (treeOf file) v → Client file s v u
+  stored-client h k near =
       let count = room-count (r .room) in
       record {
         nodes = rw (← count) (room-nodes (r .room));
         words = r .words;
         node = omega (arith, count);
-        server = omega (arith, count);
+        serving = omega (arith, count);
         nearer = near;
       }
 
 -- the words stand in another list of the same length whose front is the same
-pub ready-same : {file : List ℕ} {sizes : code.Tree} {s l : List ℕ} → length l ≡ length s
-    → take (4 * sizes .nodes) l ≡ take (4 * sizes .nodes) s → Ready file sizes s → Ready file sizes l
-ready-same {file} {sizes} {s} {l} e f r =
+pub stored-same : {file : List ℕ} {sizes : code.Tree} {s l : List ℕ} → length l ≡ length s
+    → take (nodeWords * sizes .nodes) l ≡ take (nodeWords * sizes .nodes) s → NodeWordsStored file sizes s → NodeWordsStored file sizes l
+stored-same {file} {sizes} {s} {l} e f r =
     record { room = room-kept (r .room) e; words = node-words-same (treeOf file) s l (rw (← (room-count (r .room))) (sym f)) (r .words) }

@@ -12,9 +12,9 @@ use Rattle.model.specs.Rules.{passed, fileVerdict, scratchWords}
 use Rattle.fields.specs.declared.Tree as code
 use Rattle.tree_file.specs.Checks.{sizesOf}
 use Rattle.best_rows.specs.BestAt.{bestAt}
-use Rattle.node_words.specs.Words.{NodeRoom, NodeWords}
+use Rattle.node_words.specs.Words.{nodeWords, NodeRoom, NodeWords}
 use Rattle.node_words.specs.Ancestors.{ancestorAt}
-use Rattle.lines.specs.Line.{emptyCell}
+use Rattle.lines.specs.Line.{emptyBest}
 
 -- ---- the layout
 
@@ -26,15 +26,15 @@ width sizes = sizes .budget + 1
 abbrev pub lineNumber : code.Tree → ℕ → ℕ → ℕ
 lineNumber sizes x a = x * (sizes .height + 1) + a
 
--- where the line of node x and serving depth a stands
+-- the index of the first entry of the line of node x with a serving node at depth a
 unfoldable pub lineAt : code.Tree → ℕ → ℕ → ℕ
-lineAt sizes x a = 4 * sizes .nodes + lineNumber sizes x a * width sizes
+lineAt sizes x a = nodeWords * sizes .nodes + lineNumber sizes x a * width sizes
 
--- where the lines end
+-- the index behind the last line
 unfoldable pub tableEnd : code.Tree → ℕ
-tableEnd sizes = 4 * sizes .nodes + sizes .nodes * (sizes .height + 1) * width sizes
+tableEnd sizes = nodeWords * sizes .nodes + sizes .nodes * (sizes .height + 1) * width sizes
 
--- node x and depth a have a place in the table, within the sizes of the tree file
+-- node x and depth a have a line in the table, and n, k and h are within the limits of a tree file
 pub record InTable (sizes : code.Tree) (x a : ℕ) : Type 0 where
   pub nodes : sizes .nodes ≤ mostNodes
   pub budget : sizes .budget ≤ mostBudget
@@ -42,22 +42,22 @@ pub record InTable (sizes : code.Tree) (x a : ℕ) : Type 0 where
   pub node : x < sizes .nodes
   pub above : a ≤ sizes .height
 
--- the line that stands there
+-- the line that is stored there
 unfoldable pub lineIn : code.Tree → List ℕ → ℕ → ℕ → List ℕ
 lineIn sizes s x a = part s (lineAt sizes x a) (width sizes)
 
 -- ---- what the lines hold
 
--- for each number of caches the least of the row that begins with x, served from above by x's ancestor at depth a. Node 0
--- stands for the empty row.
+-- for each number of caches the least cost of the row that begins with x, where x's ancestor at depth a is the serving node.
+-- Node 0 stands for the empty row.
 unfoldable pub lineFor : Tree → Demand → ℕ → ℕ → ℕ → List ℕ
 lineFor t d w x a = map (bestAt t d x (ancestorAt t x a)) (range 0 w)
 
--- the empty row has its line at every depth, a node at the depths above its own
+-- the empty row has a line for every depth, a node for the depths above its own
 abbrev pub HasLine : Tree → ℕ → ℕ → Type 0
 HasLine t x a = (x ≡ 0) ⊎ (a < depth t x)
 
--- the lines from number i on, and those of the empty row, hold what they are to hold
+-- the lines from number i on, and those of the empty row, hold their least costs
 unfoldable pub FilledFrom : Tree → Demand → code.Tree → List ℕ → ℕ → Type 0
 FilledFrom t d sizes s i =
     (x a : ℕ) → x < sizes .nodes → a ≤ sizes .height → HasLine t x a → (x ≡ 0) ⊎ (i ≤ lineNumber sizes x a)
@@ -71,46 +71,46 @@ pub record TableRoom (file : List ℕ) (sizes : code.Tree) (s : List ℕ) : Type
   pub of-file : sizes ≡ sizesOf file
   pub room : scratchWords file ≤ length s
 
--- the words stand
-pub record Ready (file : List ℕ) (sizes : code.Tree) (s : List ℕ) : Type 0 where
+-- and the words of the nodes are stored
+pub record NodeWordsStored (file : List ℕ) (sizes : code.Tree) (s : List ℕ) : Type 0 where
   pub room : TableRoom file sizes s
   pub words : NodeWords (treeOf file) s
 
 -- and the lines from number i on
 pub record TableFrom (file : List ℕ) (sizes : code.Tree) (s : List ℕ) (i : ℕ) : Type 0 where
-  pub ready : Ready file sizes s
+  pub stored : NodeWordsStored file sizes s
   pub lines : FilledFrom (treeOf file) (demandOf file) sizes s i
 
 -- all of them
 abbrev pub Table : List ℕ → code.Tree → List ℕ → Type 0
 Table file sizes s = TableFrom file sizes s 0
 
--- the lines from number i on were made, and the words behind the table and the length stay
-pub record Made (file : List ℕ) (sizes : code.Tree) (i : ℕ) (old new : List ℕ) : Type 0 where
+-- the lines from number i on have been stored; what is behind the table and the length are as before
+pub record LinesFilled (file : List ℕ) (sizes : code.Tree) (i : ℕ) (old new : List ℕ) : Type 0 where
   pub table : TableFrom file sizes new i
   pub front : FrontOnly (scratchWords file) old new
 
 -- ---- at a node
 
--- node v, served from above by its ancestor u at depth a
+-- node v, with its ancestor u at depth a as the serving node above it
 pub record Served (t : Tree) (v a u : ℕ) : Type 0 where
   pub site : 0 < v
   pub node : v < t .count
   pub above : a < depth t v
-  pub server : u ≡ ancestorAt t v a
+  pub ancestor : u ≡ ancestorAt t v a
 
 -- node v and a node u that can serve it, v itself or one on its way up
 pub record Client (file s : List ℕ) (v u : ℕ) : Type 0 where
   pub nodes : NodeRoom file (countOf file) s
   pub words : NodeWords (treeOf file) s
   pub node : v < countOf file
-  pub server : u < countOf file
+  pub serving : u < countOf file
   pub nearer : distance (treeOf file) u ≤ distance (treeOf file) v
 
--- ---- on the way there
+-- ---- while the table is being filled
 
--- the empty row's lines at the depths below i were stored, and the words of the nodes stay
+-- the empty row's lines for the depths below i have been stored; the words of the nodes are as before
 pub record EmptyTo (sizes : code.Tree) (i : ℕ) (old new : List ℕ) : Type 0 where
-  pub lines : (a : ℕ) → a < i → lineIn sizes new 0 a ≡ map emptyCell (range 0 (width sizes))
-  pub words : take (4 * sizes .nodes) new ≡ take (4 * sizes .nodes) old
+  pub lines : (a : ℕ) → a < i → lineIn sizes new 0 a ≡ map emptyBest (range 0 (width sizes))
+  pub words : take (nodeWords * sizes .nodes) new ≡ take (nodeWords * sizes .nodes) old
   pub front : FrontOnly (tableEnd sizes) old new

@@ -1,16 +1,17 @@
-// The plan's table in the scratch, behind the words of the nodes: its lines, filled from the last node down.
+// The plan's table in the scratch, behind the words of the nodes: a line for each node and each depth of a serving node above it,
+// filled from the last node to the first.
 ghost use mathlib.Core.Path.{_≡_};
 ghost use Prim.Native.Nat.{_+_, _≤_, _<_};
 ghost use lib.ListN.{length};
 ghost use lib.Seq.{sets};
 ghost use Rattle.model.specs.File.{treeOf, demandOf};
 ghost use Rattle.model.specs.Bill.{price};
-ghost use Rattle.node_words.specs.Sizes.{RowSizes};
+ghost use Rattle.node_words.specs.RowNodes.{RowNodes};
 ghost use Rattle.lines.specs.Line.{mostWidth};
-ghost use Rattle.table.specs.Table.{width, lineNumber, lineAt, tableEnd, InTable, lineIn, lineFor, TableRoom, Ready, Made, TableFrom, Served, Client, EmptyTo};
+ghost use Rattle.table.specs.Table.{width, lineNumber, lineAt, tableEnd, InTable, lineIn, lineFor, TableRoom, NodeWordsStored, LinesFilled, TableFrom, Served, Client, EmptyTo};
 use units::Total;
 
-// ---- the layout: only these three know it
+// ---- the layout of the table, in these three functions only
 
 // How many entries a line has.
 fn width(tree: fields::Tree) -> usize
@@ -20,15 +21,15 @@ fn width(tree: fields::Tree) -> usize
     tree.budget + 1
 }
 
-// Where the line of node x and serving depth a stands.
+// The index of the first entry of the line of node x with a serving node at depth a.
 fn line_at(tree: fields::Tree, x: usize, a: usize) -> usize
     requires { ⌜ InTable tree x a ⌝ }
     ensures { λ r. ⌜ r ≡ lineAt tree x a ⌝ }
 {
-    4 * tree.nodes + (x * (tree.height + 1) + a) * width(tree)
+    node_words::NODE_WORDS * tree.nodes + (x * (tree.height + 1) + a) * width(tree)
 }
 
-// The line of node x and serving depth a. Node 0 stands for the empty row.
+// The line of node x with a serving node at depth a. Node 0 stands for the empty row.
 pub fn line<'a>(s: &'a [u64], tree: fields::Tree, x: usize, a: usize) -> &'a [u64]
     requires { ⌜ InTable tree x a ⌝ }
     requires { ⌜ tableEnd tree ≤ length (now s) ⌝ }
@@ -52,19 +53,20 @@ pub fn pays(file: &[u8], s: &[u64], v: usize, u: usize) -> Total
 
 // ---- one line
 
-// Makes line (v, a), where u is v's ancestor at depth a: of v's children under v and under u, and of its later siblings under u.
-// `sizes` has how many nodes each row has. The line is joined where it is to stand, from local lines, as `rest` stands in s too.
+// Stores the line of node v with its ancestor u at depth a as the serving node, from the lines of v's children (served by v, and
+// by u) and of its later siblings (served by u). Entry x of `counts` is how many nodes the row that begins with x has. The line is
+// made in place, from local copies, because `rest` is in s too.
 fn fill_one(
     file: &[u8],
     tree: fields::Tree,
     s: &mut [u64],
-    sizes: &[usize],
+    counts: &[usize],
     v: usize,
     a: usize,
     u: usize,
 )
     requires { ⌜ TableFrom (now file) tree (now s) (lineNumber tree v a + 1) ⌝ }
-    requires { ⌜ RowSizes (treeOf (now file)) (now sizes) ⌝ }
+    requires { ⌜ RowNodes (treeOf (now file)) (now counts) ⌝ }
     requires { ⌜ Served (treeOf (now file)) v a u ⌝ }
     ensures { λ _. ⌜ now (s .exit) ≡ sets (now (s .entry)) (lineAt tree v a) (lineFor (treeOf (now (file .entry))) (demandOf (now (file .entry))) (width tree) v a) ⌝ }
 {
@@ -72,16 +74,16 @@ fn fill_one(
     let child = node_words::child_of(old, v);
     let sibling = node_words::sibling_of(old, v);
     let depth = node_words::depth_word(old, v);
-    let taken = line(old, tree, child, depth);
-    let spare = line(old, tree, child, a);
+    let cached = line(old, tree, child, depth);
+    let uncached = line(old, tree, child, a);
     let rest = line(old, tree, sibling, a);
     let member = pays(file, old, v, v);
     let other = pays(file, old, v, u);
-    let below = sizes[child];
-    let after = sizes[sibling];
+    let below = counts[child];
+    let after = counts[sibling];
     let w = width(tree);
     let mut node = [Total::CAP.0; lines::WIDTH];
-    lines::own_line(&mut node, taken, spare, member, other, w, below);
+    lines::own_line(&mut node, cached, uncached, member, other, w, below);
     let mut others = [Total::CAP.0; lines::WIDTH];
     lines::copy(&mut others, rest, w);
     let start = line_at(tree, v, a);
@@ -90,7 +92,7 @@ fn fill_one(
 
 // ---- the table
 
-// Stores the empty row's lines.
+// Stores the lines of the empty row.
 fn fill_empty(tree: fields::Tree, s: &mut [u64])
     requires { ⌜ InTable tree 0 0 ⌝ }
     requires { ⌜ tableEnd tree ≤ length (now s) ⌝ }
@@ -103,42 +105,42 @@ fn fill_empty(tree: fields::Tree, s: &mut [u64])
     }
 }
 
-// The lines of node v, from its parent's depth up to the server's.
-fn fill_node(file: &[u8], tree: fields::Tree, s: &mut [u64], sizes: &[usize], v: usize)
+// Stores the lines of node v, for each node above it as the serving node, from its parent up to the server.
+fn fill_node(file: &[u8], tree: fields::Tree, s: &mut [u64], counts: &[usize], v: usize)
     requires { ⌜ (0 < v) × (v < tree .nodes) ⌝ }
     requires { ⌜ TableFrom (now file) tree (now s) (lineNumber tree (v + 1) 0) ⌝ }
-    requires { ⌜ RowSizes (treeOf (now file)) (now sizes) ⌝ }
-    ensures { λ _. ⌜ Made (now (file .entry)) tree (lineNumber tree v 0) (now (s .entry)) (now (s .exit)) ⌝ }
+    requires { ⌜ RowNodes (treeOf (now file)) (now counts) ⌝ }
+    ensures { λ _. ⌜ LinesFilled (now (file .entry)) tree (lineNumber tree v 0) (now (s .entry)) (now (s .exit)) ⌝ }
 {
     let mut a = node_words::depth_word(s, v);
     let mut u = v;
     while 0 < a {
         a -= 1;
         u = fields::parent_of(file, u);
-        fill_one(file, tree, s, sizes, v, a, u);
+        fill_one(file, tree, s, counts, v, a, u);
     }
 }
 
-// All lines, from the last node's down.
-fn fill_table(file: &[u8], tree: fields::Tree, s: &mut [u64], sizes: &[usize])
-    requires { ⌜ Ready (now file) tree (now s) ⌝ }
-    requires { ⌜ RowSizes (treeOf (now file)) (now sizes) ⌝ }
-    ensures { λ _. ⌜ Made (now (file .entry)) tree 0 (now (s .entry)) (now (s .exit)) ⌝ }
+// Stores all lines, from the last node's to the first's: the lines of children and later siblings are there when they are needed.
+fn fill_table(file: &[u8], tree: fields::Tree, s: &mut [u64], counts: &[usize])
+    requires { ⌜ NodeWordsStored (now file) tree (now s) ⌝ }
+    requires { ⌜ RowNodes (treeOf (now file)) (now counts) ⌝ }
+    ensures { λ _. ⌜ LinesFilled (now (file .entry)) tree 0 (now (s .entry)) (now (s .exit)) ⌝ }
 {
     fill_empty(tree, s);
     let mut v = tree.nodes;
     while 1 < v {
         v -= 1;
-        fill_node(file, tree, s, sizes, v);
+        fill_node(file, tree, s, counts, v);
     }
 }
 
-// The words of the nodes and all lines of the plan's table; nothing behind them is touched.
+// Stores the words of the nodes and all lines of the plan's table, and changes nothing behind them.
 pub fn make_table(file: &[u8], tree: fields::Tree, s: &mut [u64])
     requires { ⌜ TableRoom (now file) tree (now s) ⌝ }
-    ensures { λ _. ⌜ Made (now (file .entry)) tree 0 (now (s .entry)) (now (s .exit)) ⌝ }
+    ensures { λ _. ⌜ LinesFilled (now (file .entry)) tree 0 (now (s .entry)) (now (s .exit)) ⌝ }
 {
     node_words::note_nodes(file, tree.nodes, s);
-    let sizes = node_words::row_sizes(s, tree.nodes);
-    fill_table(file, tree, s, &sizes);
+    let counts = node_words::row_nodes(s, tree.nodes);
+    fill_table(file, tree, s, &counts);
 }

@@ -72,9 +72,9 @@ fn length_holds(file: &[u8], i: usize) -> bool
     ensures { λ r. ⌜ r ≡ lengthHolds (treeOf (now (file .entry))) i ⌝ }
 {
     if i == 0 {
-        return fields::field_of(file, 1, i) == 0;
+        return fields::field_of(file, fields::Tree::LENGTH_FIELD, i) == 0;
     }
-    fields::within(file, 1, i)
+    fields::within(file, fields::Tree::LENGTH_FIELD, i)
 }
 
 // Rules 7 to 11 of record i, where they hold of the records before it and their depths are kept.
@@ -93,10 +93,10 @@ fn record_ruling(file: &[u8], depths: &[usize], i: usize) -> Ruling
     if !length_holds(file, i) {
         return Ruling::Broken(9, record);
     }
-    if !fields::within(file, 2, i) {
+    if !fields::within(file, fields::Tree::FLOW_FIELD, i) {
         return Ruling::Broken(10, record);
     }
-    if !fields::within(file, 3, i) {
+    if !fields::within(file, fields::Tree::HIT_FIELD, i) {
         return Ruling::Broken(11, record);
     }
     Ruling::Passed

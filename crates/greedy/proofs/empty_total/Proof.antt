@@ -3,12 +3,12 @@ use Prim.Native.Nat.{_-_}
 use native.Mathlib.Omega.{arith}
 use Rattle.node_words.proofs.Words.{room-record}
 use Rattle.greedy.proofs.EmptySet.{Summed, summed-none, summed-small, summed-next, summed-all}
-use Rattle.greedy.specs.Words.{Ready}
+use Rattle.greedy.specs.Words.{DistancesStored}
 use Rattle.greedy.proofs.empty_total.Statement.{statement}
 use Rattle.greedy.proofs.empty_total.Tie as tie
 
 abbrev Inv-loop : tie.InvT-loop
-Inv-loop file n words sum₀ v₀ sum v = (ready : Ready file n words) × Summed ready v (sum .0)
+Inv-loop file n words sum₀ v₀ sum v = (stored : DistancesStored file n words) × Summed stored v (sum .0)
 
 abbrev μ-loop : tie.MeasureT-loop
 μ-loop file n words sum₀ v₀ sum v = n - v

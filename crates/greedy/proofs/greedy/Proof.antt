@@ -4,7 +4,7 @@ use borrow.Author.Needs.{needs}
 use Rattle.laws.proofs.Bools.{held, failed}
 use Rattle.tree_file.specs.Checks.{answerOf}
 use Rattle.lent.proofs.Asked.{lent-sizes}
-use Rattle.greedy.proofs.Answers.{greedy-refused, greedy-short, greedy-granted, greedy-written}
+use Rattle.greedy.proofs.Answers.{greedy-refused, greedy-short, greedy-room, greedy-written}
 use Rattle.greedy.proofs.greedy.Statement.{statement}
 use Rattle.greedy.proofs.greedy.Tie as tie
 
@@ -21,7 +21,7 @@ returns : tie.Need-returns
 returns c = greedy-short _ _ _ _ (ap answerOf (sym (c .before .before .before .checked .given .1)) ∙ c .before .before .before .before .before .check .ensures) (failed (c .before .buffers-long .ensures) (c .if1 .taken))
 
 run-requires : tie.Need-run-requires
-run-requires c κs = greedy-granted _ _ _ _ (ap answerOf (sym (c .before .before .before .before .before .before .checked .given .1)) ∙ c .before .before .before .before .before .before .before .before .check .ensures) (held (c .before .before .before .before .buffers-long .ensures) (c .before .before .before .if1 .left))
+run-requires c κs = greedy-room _ _ _ _ (ap answerOf (sym (c .before .before .before .before .before .before .checked .given .1)) ∙ c .before .before .before .before .before .before .before .before .check .ensures) (held (c .before .before .before .before .buffers-long .ensures) (c .before .before .before .if1 .left))
 
 enum-known-checked-2 : tie.Need-enum-known-checked-2
 enum-known-checked-2 c = search needs

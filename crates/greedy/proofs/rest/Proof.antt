@@ -8,19 +8,19 @@ use Rattle.greedy.proofs.rest.Statement.{statement}
 use Rattle.greedy.proofs.rest.Tie as tie
 
 abbrev Inv-loop : tie.InvT-loop
-Inv-loop b k total totals₀ taken₀ j₀ totals taken j = (b ≤ j) × (j ≤ k) × Filled b j (total .0) totals₀ taken₀ totals taken
+Inv-loop b k total totals₀ nodes₀ j₀ totals nodes j = (b ≤ j) × (j ≤ k) × Filled b j (total .0) totals₀ nodes₀ totals nodes
 
 abbrev μ-loop : tie.MeasureT-loop
-μ-loop b k total totals₀ taken₀ j₀ totals taken j = k - j
+μ-loop b k total totals₀ nodes₀ j₀ totals nodes j = k - j
 
 loop-holds : tie.Need-loop-holds Inv-loop μ-loop
 loop-holds c = (omega arith, omega arith, filled-none)
 
-mul-taken : tie.Need-mul-taken Inv-loop μ-loop
-mul-taken c = omega arith
+mul-nodes : tie.Need-mul-nodes Inv-loop μ-loop
+mul-nodes c = omega arith
 
-slice-write-taken : tie.Need-slice-write-taken Inv-loop μ-loop
-slice-write-taken c = omega (arith, filled-long (c .before .loop .inv .2) .1)
+slice-write-nodes : tie.Need-slice-write-nodes Inv-loop μ-loop
+slice-write-nodes c = omega (arith, filled-long (c .before .loop .inv .2) .1)
 
 add-totals : tie.Need-add-totals Inv-loop μ-loop
 add-totals c = omega arith
@@ -56,8 +56,8 @@ rest-spec =
     Inv-loop
     μ-loop
     loop-holds
-    mul-taken
-    slice-write-taken
+    mul-nodes
+    slice-write-nodes
     add-totals
     mul-totals
     slice-write-totals

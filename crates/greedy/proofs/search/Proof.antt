@@ -6,12 +6,12 @@ use Prim.Native.Nat.{_-_, _≤_}
 use native.Mathlib.Omega.{arith}
 use Rattle.laws.specs.FirstGreatest.{FirstGreatest}
 use Rattle.laws.proofs.FirstGreatest.{search-begins, search-finds, search-passes}
-use Rattle.greedy.specs.Words.{savingWord}
+use Rattle.greedy.specs.Words.{savingFrom}
 use Rattle.greedy.proofs.search.Statement.{statement}
 use Rattle.greedy.proofs.search.Tie as tie
 
 abbrev Inv-loop : tie.InvT-loop
-Inv-loop n words site₀ most₀ v₀ site most v = (1 ≤ v) × (v ≤ n) × FirstGreatest (λ _. false) (savingWord words) v site (most .0)
+Inv-loop n words site₀ most₀ v₀ site most v = (1 ≤ v) × (v ≤ n) × FirstGreatest (λ _. false) (savingFrom words) v site (most .0)
 
 abbrev μ-loop : tie.MeasureT-loop
 μ-loop n words site₀ most₀ v₀ site most v = n - v

@@ -6,14 +6,14 @@ use borrow.Author.Needs.{needs}
 use Rattle.model.specs.File.{treeOf}
 use Rattle.node_words.proofs.Words.{room-record, room-parent}
 use Rattle.greedy.specs.Savings.{servingDistance}
-use Rattle.greedy.specs.Words.{servedWord, marked, Wrote, Ready}
+use Rattle.greedy.specs.Words.{servingDistanceWord, markedSites, Wrote, DistancesStored}
 use Rattle.greedy.proofs.Words.{wrote-nothing, wrote-next}
 use Rattle.greedy.proofs.Passes.{served-site}
 use Rattle.greedy.proofs.serve.Statement.{statement}
 use Rattle.greedy.proofs.serve.Tie as tie
 
 abbrev Inv-loop : tie.InvT-loop
-Inv-loop file n words₀ x v₀ words v = (0 < v) × (v ≤ n) × Ready file n words₀ × Wrote n servedWord (servingDistance (treeOf file) (marked n words₀)) v words₀ words
+Inv-loop file n words₀ x v₀ words v = (0 < v) × (v ≤ n) × DistancesStored file n words₀ × Wrote n servingDistanceWord (servingDistance (treeOf file) (markedSites n words₀)) v words₀ words
 
 abbrev μ-loop : tie.MeasureT-loop
 μ-loop file n words₀ x v₀ words v = n - v

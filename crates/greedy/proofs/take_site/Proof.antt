@@ -1,6 +1,6 @@
 -- `take_site`: the words of each node with one site more.
 use borrow.Author.Needs.{needs}
-use Rattle.greedy.proofs.TakeSite.{marked-ready, marked-served, site-taken}
+use Rattle.greedy.proofs.TakeSite.{marked-distances, marked-served, site-taken}
 use Rattle.greedy.proofs.take_site.Statement.{statement}
 use Rattle.greedy.proofs.take_site.Tie as tie
 
@@ -15,7 +15,7 @@ serve-requires c κs =
     let st = c .before .before .before .before .before .before .before .before .before .before .before in
     let relieved = c .before .before .before .before .before .before .before .relieve .ensures in
     let mark = c .before .before .before .put .ensures in
-    ((marked-ready (st .pre .0) (st .pre .1) relieved mark, st .pre .1 .site, st .pre .1 .below), marked-served (st .pre .0) (st .pre .1) relieved mark)
+    ((marked-distances (st .pre .0) (st .pre .1) relieved mark, st .pre .1 .site, st .pre .1 .below), marked-served (st .pre .0) (st .pre .1) relieved mark)
 
 same-length : tie.Need-same-length
 same-length c = search needs

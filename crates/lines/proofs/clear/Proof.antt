@@ -1,4 +1,4 @@
--- `clear`: stores "no choice" in the first w entries of a line.
+-- `clear`: stores "does not fit" in the first w entries of a line.
 use mathlib.Core.Path.{_≡_, refl}
 use Prim.Native.Nat.{_-_, _≤_}
 use native.Mathlib.Omega.{arith}

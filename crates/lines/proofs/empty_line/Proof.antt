@@ -8,13 +8,13 @@ use lib.Seq.{sets}
 use borrow.Author.Needs.{needs}
 use Rattle.laws.specs.Lists.{range}
 use Rattle.laws.proofs.Stores.{loop-begins, loop-turns}
-use Rattle.lines.specs.Line.{emptyCell}
+use Rattle.lines.specs.Line.{emptyBest}
 use Rattle.lines.proofs.empty_line.Statement.{statement}
 use Rattle.lines.proofs.empty_line.Tie as tie
 
 abbrev Inv-loop : tie.InvT-loop
 Inv-loop s₀ at w i₀ s i =
-    (i ≤ w) × (length s ≡ length s₀) × (s ≡ sets s₀ at (map emptyCell (range 0 i)))
+    (i ≤ w) × (length s ≡ length s₀) × (s ≡ sets s₀ at (map emptyBest (range 0 i)))
 
 abbrev μ-loop : tie.MeasureT-loop
 μ-loop s₀ at w i₀ s i = w - i

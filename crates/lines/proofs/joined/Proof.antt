@@ -1,4 +1,4 @@
--- `joined`: makes the line of a row of two parts.
+-- `joined`: makes the line of a row of two parts from their lines.
 use mathlib.Core.Path.{_≡_, refl, _∙_}
 use Prim.Native.Nat.{_-_, _≤_}
 use native.Mathlib.Omega.{arith}
@@ -9,11 +9,11 @@ use Rattle.lines.proofs.joined.Statement.{statement}
 use Rattle.lines.proofs.joined.Tie as tie
 
 abbrev Inv-loop : tie.InvT-loop
-Inv-loop line₀ first second w end turns r₀ line r =
-    (r ≤ turns) × (length line ≡ w) × LeastBefore first second w r line
+Inv-loop line₀ first second w end stop r₀ line r =
+    (r ≤ stop) × (length line ≡ w) × LeastBefore first second w r line
 
 abbrev μ-loop : tie.MeasureT-loop
-μ-loop line₀ first second w end turns r₀ line r = turns - r
+μ-loop line₀ first second w end stop r₀ line r = stop - r
 
 clear-requires : tie.Need-clear-requires Inv-loop μ-loop
 clear-requires c κs = search needs
@@ -69,8 +69,8 @@ returns : tie.Need-returns Inv-loop μ-loop
 returns c =
     let s = c .before .before .before .before .before .before .before .before .before in
     let l = c .before .loop in
-    let all : l .r ≡ s .args .turns = omega arith in
-    row-ends (s .args .first .now) (s .args .second .now) (s .args .w) (s .args .turns) _ (l .inv .1) (s .pre .1 .none .1) (rw (← all) (l .inv .2))
+    let all : l .r ≡ s .args .stop = omega arith in
+    row-ends (s .args .first .now) (s .args .second .now) (s .args .w) (s .args .stop) _ (l .inv .1) (s .pre .1 .none .1) (rw (← all) (l .inv .2))
 
 pub joined-spec : {M : Type 1} → statement M
 joined-spec =

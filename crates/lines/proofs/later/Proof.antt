@@ -1,20 +1,20 @@
--- `later`: how many of a row's m caches are among the later siblings: the least number at which the split is least.
+-- `later`: how many of a row's m caches are among the later siblings: the smallest number at which the split costs least.
 use mathlib.Core.Logic.{⊎-elim}
 use Prim.Native.Nat.{_+_, _-_, _≤_}
 use native.Mathlib.Omega.{arith}
 use borrow.Author.Needs.{needs}
-use Rattle.best_rows.specs.Best.{split, cell}
-use Rattle.lines.specs.Line.{lineNode, lineSplit, lineLater, lineCell}
+use Rattle.best_rows.specs.Best.{split, rowBest}
+use Rattle.lines.specs.Line.{lineNode, lineSplit, lineLater, lineBest}
 use Rattle.lines.proofs.First.{FirstFrom, first-begins, first-lowers, first-stays, first-ends}
 use Rattle.lines.proofs.later.Statement.{statement}
 use Rattle.lines.proofs.later.Tie as tie
 
 abbrev Inv-loop : tie.InvT-loop
-Inv-loop taken spare rest member other m most first₀ least₀ r₀ first least r =
-    (r ≤ m + 1) × FirstFrom (lineSplit taken spare rest (member .0) (other .0) m) (m - most) r first (least .0)
+Inv-loop cached uncached rest member other m most first₀ least₀ r₀ first least r =
+    (r ≤ m + 1) × FirstFrom (lineSplit cached uncached rest (member .0) (other .0) m) (m - most) r first (least .0)
 
 abbrev μ-loop : tie.MeasureT-loop
-μ-loop taken spare rest member other m most first₀ least₀ r₀ first least r = m + 1 - r
+μ-loop cached uncached rest member other m most first₀ least₀ r₀ first least r = m + 1 - r
 
 sub-first : tie.Need-sub-first Inv-loop μ-loop
 sub-first c = search needs
@@ -51,7 +51,7 @@ loop-again c =
     )
 
 returns : tie.Need-returns Inv-loop μ-loop
-unfolding lineLater lineNode lineCell split cell
+unfolding lineLater lineNode lineBest split rowBest
 returns c =
     let st = c .before .before .before .before .before .before in
     let bound = st .pre .1 in

@@ -1,4 +1,4 @@
--- `lower`: lowers a row's line to the splits with r caches in one part, and fewer than `end` in the other.
+-- `lower`: for each n < end: line[r + n] becomes other[n] + cost if that is smaller.
 use mathlib.Core.Path.{_≡_, refl, sym, _∙_}
 use mathlib.Core.Logic.{⊎-elim}
 use Prim.Native.Nat.{_-_, _≤_}

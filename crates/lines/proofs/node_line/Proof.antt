@@ -14,11 +14,11 @@ use Rattle.lines.proofs.node_line.Statement.{statement}
 use Rattle.lines.proofs.node_line.Tie as tie
 
 abbrev Inv-loop : tie.InvT-loop
-Inv-loop line₀ taken spare member other end n₀ line n =
-    (n ≤ end) × (length line ≡ length line₀) × (line ≡ sets line₀ 0 (map (lineNode taken spare (member .0) (other .0)) (range 0 n)))
+Inv-loop line₀ cached uncached member other end n₀ line n =
+    (n ≤ end) × (length line ≡ length line₀) × (line ≡ sets line₀ 0 (map (lineNode cached uncached (member .0) (other .0)) (range 0 n)))
 
 abbrev μ-loop : tie.MeasureT-loop
-μ-loop line₀ taken spare member other end n₀ line n = end - n
+μ-loop line₀ cached uncached member other end n₀ line n = end - n
 
 loop-holds : tie.Need-loop-holds Inv-loop μ-loop
 loop-holds c = (omega arith, refl, loop-begins _ _ _)

@@ -1,4 +1,4 @@
--- `own_line`: stores a node's line for the counts that it can have.
+-- `own_line`: stores a node's line for the counts that fit.
 use native.Mathlib.Omega.{arith}
 use borrow.Author.Needs.{needs}
 use Rattle.lines.proofs.Fewer.{parts-fewer}

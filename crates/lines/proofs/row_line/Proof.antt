@@ -1,7 +1,7 @@
 -- `row_line`: makes a row's line, from that of its first node and that of its later siblings.
 use mathlib.Core.Path.{_∙_}
 use borrow.Author.Needs.{needs}
-use Rattle.lines.proofs.Row.{row-parts-turned, row-turned}
+use Rattle.lines.proofs.Row.{row-parts-swapped, joined-swapped}
 use Rattle.lines.proofs.row_line.Statement.{statement}
 use Rattle.lines.proofs.row_line.Tie as tie
 
@@ -19,7 +19,7 @@ joined-requires c κs =
     let others = c .before .before in
     let own = others .before in
     let s = own .before .before .before .before in
-    (s .pre .0, rw (own .own-end .ensures, others .lesser .ensures) (row-parts-turned (s .pre .1 .1)))
+    (s .pre .0, rw (own .own-end .ensures, others .lesser .ensures) (row-parts-swapped (s .pre .1 .1)))
 
 joined-requires-2 : tie.Need-joined-requires-2
 joined-requires-2 c κs =
@@ -32,7 +32,7 @@ same-length : tie.Need-same-length
 same-length c = search needs
 
 returns : tie.Need-returns
-returns c = c .before .before .joined .ensures ∙ row-turned _ _ _
+returns c = c .before .before .joined .ensures ∙ joined-swapped _ _ _
 
 same-length-2 : tie.Need-same-length-2
 same-length-2 c = search needs

@@ -1,4 +1,4 @@
--- `split`: a row with m caches, of which r are among the later siblings.
+-- `split`: the cost of a row with m caches, of which r are among the later siblings.
 use Prim.Native.Nat.{_+_, _-_}
 use native.Mathlib.Omega.{arith}
 use borrow.Author.Needs.{needs}
@@ -26,7 +26,7 @@ unfolding cap
 plus-requires c κs =
     let s = c .before .before .before .before .before in
     let a = s .args in
-    omega (arith, node-within (a .taken .now) (a .spare .now) (a .member .0) (a .other .0) (a .m - a .r) (a .m + 1) (omega arith) (s .pre .0 .node-parts), s .pre .0 .rest-line .within (a .r) (omega arith))
+    omega (arith, node-within (a .cached .now) (a .uncached .now) (a .member .0) (a .other .0) (a .m - a .r) (a .m + 1) (omega arith) (s .pre .0 .node-parts), s .pre .0 .rest-line .within (a .r) (omega arith))
 
 returns : tie.Need-returns
 unfolding split lineNode

@@ -1,17 +1,17 @@
--- `takes`: whether the node itself is one of its n caches: it is, unless the other side costs less.
+-- `takes`: whether the node itself is one of the n caches: it is, unless it costs less without.
 use borrow.Author.Needs.{needs}
 use Rattle.lines.proofs.Node.{takes-unless-less}
 use Rattle.lines.proofs.takes.Statement.{statement}
 use Rattle.lines.proofs.takes.Tie as tie
 
-sides-of-requires : tie.Need-sides-of-requires
-sides-of-requires c κs = search needs
+node-costs-requires : tie.Need-node-costs-requires
+node-costs-requires c κs = search needs
 
 is-less-requires : tie.Need-is-less-requires
 is-less-requires c κs = search needs
 
 returns : tie.Need-returns
-returns c = takes-unless-less _ _ _ _ _ (c .before .sides-of .ensures .0) (c .before .sides-of .ensures .1) (c .is-less .ensures)
+returns c = takes-unless-less _ _ _ _ _ (c .before .node-costs .ensures .0) (c .before .node-costs .ensures .1) (c .is-less .ensures)
 
 pub takes-spec : {M : Type 1} → statement M
-takes-spec = tie.close (tie.spec sides-of-requires is-less-requires returns)
+takes-spec = tie.close (tie.spec node-costs-requires is-less-requires returns)

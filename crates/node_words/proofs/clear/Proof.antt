@@ -1,15 +1,15 @@
--- `clear`: no node has a child or a sibling.
+-- `clear`: stores "none" as the first child and the next sibling of each node.
 use mathlib.Core.Path.{_≡_}
 use Prim.Native.Nat.{_-_, _≤_}
 use native.Mathlib.Omega.{arith}
 use borrow.Author.Needs.{needs}
-use Rattle.node_words.specs.Words.{Cleared, LinksOnly}
+use Rattle.node_words.specs.Words.{Unlinked, LinksOnly}
 use Rattle.node_words.proofs.Links.{links-only-none, cleared-none, cleared-next}
 use Rattle.node_words.proofs.clear.Statement.{statement}
 use Rattle.node_words.proofs.clear.Tie as tie
 
 abbrev Inv-loop : tie.InvT-loop
-Inv-loop n words₀ v₀ words v = (v ≤ n) × Cleared words v × LinksOnly n words₀ words
+Inv-loop n words₀ v₀ words v = (v ≤ n) × Unlinked words v × LinksOnly n words₀ words
 
 abbrev μ-loop : tie.MeasureT-loop
 μ-loop n words₀ v₀ words v = n - v

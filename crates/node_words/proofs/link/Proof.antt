@@ -1,4 +1,4 @@
--- `link`: the first child and the next sibling of each node.
+-- `link`: stores the first child and the next sibling of each node.
 use mathlib.Core.Path.{_≡_}
 use Prim.Native.Nat.{_<_}
 use native.Mathlib.Omega.{arith}

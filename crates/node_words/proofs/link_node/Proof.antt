@@ -1,4 +1,4 @@
--- `link_node`: node `v` becomes the first child of its parent, before the one that was.
+-- `link_node`: puts node `v` in front of the list of its parent's children.
 use native.Mathlib.Omega.{arith}
 use borrow.Author.Needs.{needs}
 use Rattle.node_words.proofs.Words.{room-record, room-above}

@@ -1,4 +1,4 @@
--- `measure`: the distance and the depth of each node.
+-- `measure`: stores the distance and the depth of each node.
 use mathlib.Core.Path.{_≡_}
 use Prim.Native.Nat.{_*_, _-_, _≤_, _<_}
 use native.Mathlib.Omega.{arith}
@@ -6,14 +6,14 @@ use borrow.Author.Needs.{needs}
 use Rattle.laws.specs.Fronts.{FrontOnly}
 use Rattle.laws.proofs.Fronts.{front-only-none, front-only-then}
 use Rattle.model.specs.File.{treeOf}
-use Rattle.node_words.specs.Words.{NodeRoom, Measured}
+use Rattle.node_words.specs.Words.{nodeWords, NodeRoom, Measured}
 use Rattle.node_words.proofs.Words.{room-some, room-kept}
 use Rattle.node_words.proofs.Measures.{measured-server}
 use Rattle.node_words.proofs.measure.Statement.{statement}
 use Rattle.node_words.proofs.measure.Tie as tie
 
 abbrev Inv-loop : tie.InvT-loop
-Inv-loop file n words₀ v₀ words v = (0 < v) × (v ≤ n) × NodeRoom file n words × Measured (treeOf file) words v × FrontOnly (4 * n) words₀ words
+Inv-loop file n words₀ v₀ words v = (0 < v) × (v ≤ n) × NodeRoom file n words × Measured (treeOf file) words v × FrontOnly (nodeWords * n) words₀ words
 
 abbrev μ-loop : tie.MeasureT-loop
 μ-loop file n words₀ v₀ words v = n - v

@@ -1,4 +1,4 @@
--- `measure_node`: the distance and the depth of node `v`, from those of its parent.
+-- `measure_node`: stores the distance and the depth of node `v`, from those of its parent.
 use mathlib.Core.Path.{ap, ap₂, _∙_}
 use Prim.Native.Nat.{_+_}
 use native.Mathlib.Omega.{arith}

@@ -1,4 +1,4 @@
--- `note_nodes`: the four words of each node; nothing behind them is touched.
+-- `note_nodes`: stores the four words of each node, and changes nothing behind them.
 use borrow.Author.Needs.{needs}
 use Rattle.laws.proofs.Fronts.{front-only-then}
 use Rattle.node_words.proofs.Words.{room-kept}

@@ -1,4 +1,4 @@
--- `put_pair`: words `f` and `f + 1` of node `v`.
+-- `put_pair`: stores words `f` and `f + 1` of node `v`.
 use borrow.Author.Needs.{needs}
 use Rattle.node_words.proofs.put_pair.Statement.{statement}
 use Rattle.node_words.proofs.put_pair.Tie as tie

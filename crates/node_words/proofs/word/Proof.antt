@@ -1,4 +1,4 @@
--- `word`: word `f` of node `v`.
+-- `word`: reads word `f` of node `v`.
 use borrow.Author.Needs.{needs}
 use Rattle.node_words.proofs.word.Statement.{statement}
 use Rattle.node_words.proofs.word.Tie as tie

@@ -43,191 +43,96 @@ abbrev walk-row-below : ℕ → In 3 walk-row-kinds.ps
 walk-row-below t =
     and 3 walk-row-kinds.ps (falls 3 walk-row-kinds.ps _<_ μ-walk-row t) walk-row.Pre
 
-walk-node-child-of-requires : (t : ℕ) → walk-node-lts.Need-child-of-requires (
-  child-of-reads.Asked,
-  child-of-reads.Learnt,
-  walk-row-below t,
-  walk-row.Post,
-) (walk-node-at t) walk-node.Post
+-- what the functions that each of the two calls ask for and ensure
+abbrev walk-node-claims : ℕ → walk-node-lts.Claims
+walk-node-claims t = (child-of-reads.Asked, child-of-reads.Learnt, walk-row-below t, walk-row.Post)
+
+abbrev walk-row-claims : ℕ → walk-row-lts.Claims
+walk-row-claims t = (
+  split-of-reads.Asked,
+  split-of-reads.Learnt,
+  walk-node-below t,
+  walk-node.Post,
+  sibling-of-reads.Asked,
+  sibling-of-reads.Learnt,
+)
+
+walk-node-child-of-requires : (t : ℕ) → walk-node-lts.Need-child-of-requires (walk-node-claims t) (walk-node-at t) walk-node.Post
 walk-node-child-of-requires t c κs = node-stands (c .before .before .before .pre .1)
 
-walk-node-cast-rows : (t : ℕ) → walk-node-lts.Need-cast-rows (
-  child-of-reads.Asked,
-  child-of-reads.Learnt,
-  walk-row-below t,
-  walk-row.Post,
-) (walk-node-at t) walk-node.Post
+walk-node-cast-rows : (t : ℕ) → walk-node-lts.Need-cast-rows (walk-node-claims t) (walk-node-at t) walk-node.Post
 walk-node-cast-rows t c = omega (arith, node-small (c .before .before .before .before .before .pre .1))
 
-walk-node-mul-rows : (t : ℕ) → walk-node-lts.Need-mul-rows (
-  child-of-reads.Asked,
-  child-of-reads.Learnt,
-  walk-row-below t,
-  walk-row.Post,
-) (walk-node-at t) walk-node.Post
+walk-node-mul-rows : (t : ℕ) → walk-node-lts.Need-mul-rows (walk-node-claims t) (walk-node-at t) walk-node.Post
 walk-node-mul-rows t c = omega arith
 
-walk-node-slice-write-rows : (t : ℕ) → walk-node-lts.Need-slice-write-rows (
-  child-of-reads.Asked,
-  child-of-reads.Learnt,
-  walk-row-below t,
-  walk-row.Post,
-) (walk-node-at t) walk-node.Post
+walk-node-slice-write-rows : (t : ℕ) → walk-node-lts.Need-slice-write-rows (walk-node-claims t) (walk-node-at t) walk-node.Post
 walk-node-slice-write-rows t c = omega (arith, c .before .before .before .before .before .pre .1 .room, member-some (c .before .before .before .before .before .pre .1) (c .before .child-of .ensures) (c .if1 .taken))
 
-walk-node-sub-walk-row : (t : ℕ) → walk-node-lts.Need-sub-walk-row (
-  child-of-reads.Asked,
-  child-of-reads.Learnt,
-  walk-row-below t,
-  walk-row.Post,
-) (walk-node-at t) walk-node.Post
+walk-node-sub-walk-row : (t : ℕ) → walk-node-lts.Need-sub-walk-row (walk-node-claims t) (walk-node-at t) walk-node.Post
 walk-node-sub-walk-row t c = member-some (c .before .before .before .before .before .before .pre .1) (c .before .before .child-of .ensures) (c .before .if1 .taken)
 
-walk-node-add-walk-row : (t : ℕ) → walk-node-lts.Need-add-walk-row (
-  child-of-reads.Asked,
-  child-of-reads.Learnt,
-  walk-row-below t,
-  walk-row.Post,
-) (walk-node-at t) walk-node.Post
+walk-node-add-walk-row : (t : ℕ) → walk-node-lts.Need-add-walk-row (walk-node-claims t) (walk-node-at t) walk-node.Post
 walk-node-add-walk-row t c = omega arith
 
-walk-node-walk-row-requires : (t : ℕ) → walk-node-lts.Need-walk-row-requires (
-  child-of-reads.Asked,
-  child-of-reads.Learnt,
-  walk-row-below t,
-  walk-row.Post,
-) (walk-node-at t) walk-node.Post
+walk-node-walk-row-requires : (t : ℕ) → walk-node-lts.Need-walk-row-requires (walk-node-claims t) (walk-node-at t) walk-node.Post
 walk-node-walk-row-requires t c κs = (
   omega (arith, c .before .before .before .before .before .before .pre .0, child-row (c .before .before .before .before .before .before .pre .1) (c .before .before .child-of .ensures)),
   member-row (c .before .before .before .before .before .before .pre .1) (c .before .before .child-of .ensures) (c .before .if1 .taken),
 )
 
-walk-node-same-length : (t : ℕ) → walk-node-lts.Need-same-length (
-  child-of-reads.Asked,
-  child-of-reads.Learnt,
-  walk-row-below t,
-  walk-row.Post,
-) (walk-node-at t) walk-node.Post
+walk-node-same-length : (t : ℕ) → walk-node-lts.Need-same-length (walk-node-claims t) (walk-node-at t) walk-node.Post
 walk-node-same-length t c = c .before .before .walk-row .kept .1 .1 .1 .0 ∙ simp length-set
 
-walk-node-returns : (t : ℕ) → walk-node-lts.Need-returns (
-  child-of-reads.Asked,
-  child-of-reads.Learnt,
-  walk-row-below t,
-  walk-row.Post,
-) (walk-node-at t) walk-node.Post
+walk-node-returns : (t : ℕ) → walk-node-lts.Need-returns (walk-node-claims t) (walk-node-at t) walk-node.Post
 walk-node-returns t c = (
   omega (arith, c .before .before .walk-row .ensures .0, member-some (c .before .before .before .before .before .before .before .before .before .pre .1) (c .before .before .before .before .before .child-of .ensures) (c .before .before .before .before .if1 .taken)),
   c .before .before .walk-row .ensures .1 ∙ member-stores (c .before .before .before .before .before .before .before .before .before .pre .1) (c .before .before .before .before .before .child-of .ensures) (c .before .before .before .before .if1 .taken),
 )
 
-walk-node-walk-row-requires-2 : (t : ℕ) → walk-node-lts.Need-walk-row-requires-2 (
-  child-of-reads.Asked,
-  child-of-reads.Learnt,
-  walk-row-below t,
-  walk-row.Post,
-) (walk-node-at t) walk-node.Post
+walk-node-walk-row-requires-2 : (t : ℕ) → walk-node-lts.Need-walk-row-requires-2 (walk-node-claims t) (walk-node-at t) walk-node.Post
 walk-node-walk-row-requires-2 t c κs = (
   omega (arith, c .before .before .before .before .before .before .pre .0, child-row (c .before .before .before .before .before .before .pre .1) (c .before .before .child-of .ensures)),
   other-row (c .before .before .before .before .before .before .pre .1) (c .before .before .child-of .ensures) (c .before .if1 .left),
 )
 
-walk-node-same-length-2 : (t : ℕ) → walk-node-lts.Need-same-length-2 (
-  child-of-reads.Asked,
-  child-of-reads.Learnt,
-  walk-row-below t,
-  walk-row.Post,
-) (walk-node-at t) walk-node.Post
+walk-node-same-length-2 : (t : ℕ) → walk-node-lts.Need-same-length-2 (walk-node-claims t) (walk-node-at t) walk-node.Post
 walk-node-same-length-2 t c = c .before .before .walk-row2 .kept .1 .1 .1 .0
 
-walk-node-returns-2 : (t : ℕ) → walk-node-lts.Need-returns-2 (
-  child-of-reads.Asked,
-  child-of-reads.Learnt,
-  walk-row-below t,
-  walk-row.Post,
-) (walk-node-at t) walk-node.Post
+walk-node-returns-2 : (t : ℕ) → walk-node-lts.Need-returns-2 (walk-node-claims t) (walk-node-at t) walk-node.Post
 walk-node-returns-2 t c = (
   c .before .before .walk-row2 .ensures .0,
   c .before .before .walk-row2 .ensures .1 ∙ other-stores (c .before .before .before .before .before .before .before .before .before .pre .1) (c .before .before .before .before .before .child-of .ensures) (c .before .before .before .before .if1 .left),
 )
 
 abbrev walk-row-Inv-loop : walk-row-lts.InvT-loop
-walk-row-Inv-loop file tree s rows₀ first server count start x₀ m₀ at₀ rows x m at = Walked file tree s server first count start rows₀ x m at rows
+walk-row-Inv-loop file tree s rows₀ first serving count start x₀ m₀ at₀ rows x m at = Walked file tree s serving first count start rows₀ x m at rows
 
 abbrev walk-row-μ-loop : walk-row-lts.MeasureT-loop
-walk-row-μ-loop file tree s rows₀ first server count start x₀ m₀ at₀ rows x m at = rowSize (rowAt (treeOf file) x)
+walk-row-μ-loop file tree s rows₀ first serving count start x₀ m₀ at₀ rows x m at = rowSize (rowAt (treeOf file) x)
 
-walk-row-loop-holds : (t : ℕ) → walk-row-lts.Need-loop-holds (
-  split-of-reads.Asked,
-  split-of-reads.Learnt,
-  walk-node-below t,
-  walk-node.Post,
-  sibling-of-reads.Asked,
-  sibling-of-reads.Learnt,
-) (walk-row-at t) walk-row.Post walk-row-Inv-loop walk-row-μ-loop
+walk-row-loop-holds : (t : ℕ) → walk-row-lts.Need-loop-holds (walk-row-claims t) (walk-row-at t) walk-row.Post walk-row-Inv-loop walk-row-μ-loop
 walk-row-loop-holds t c = walk-begins (c .before .before .before .pre .1)
 
-walk-row-split-of-requires : (t : ℕ) → walk-row-lts.Need-split-of-requires (
-  split-of-reads.Asked,
-  split-of-reads.Learnt,
-  walk-node-below t,
-  walk-node.Post,
-  sibling-of-reads.Asked,
-  sibling-of-reads.Learnt,
-) (walk-row-at t) walk-row.Post walk-row-Inv-loop walk-row-μ-loop
+walk-row-split-of-requires : (t : ℕ) → walk-row-lts.Need-split-of-requires (walk-row-claims t) (walk-row-at t) walk-row.Post walk-row-Inv-loop walk-row-μ-loop
 walk-row-split-of-requires t c κs = walked-row (c .before .loop .inv) (c .loop-test .taken)
 
-walk-row-sub-walk-node : (t : ℕ) → walk-row-lts.Need-sub-walk-node (
-  split-of-reads.Asked,
-  split-of-reads.Learnt,
-  walk-node-below t,
-  walk-node.Post,
-  sibling-of-reads.Asked,
-  sibling-of-reads.Learnt,
-) (walk-row-at t) walk-row.Post walk-row-Inv-loop walk-row-μ-loop
+walk-row-sub-walk-node : (t : ℕ) → walk-row-lts.Need-sub-walk-node (walk-row-claims t) (walk-row-at t) walk-row.Post walk-row-Inv-loop walk-row-μ-loop
 walk-row-sub-walk-node t c = omega arith
 
-walk-row-walk-node-requires : (t : ℕ) → walk-row-lts.Need-walk-node-requires (
-  split-of-reads.Asked,
-  split-of-reads.Learnt,
-  walk-node-below t,
-  walk-node.Post,
-  sibling-of-reads.Asked,
-  sibling-of-reads.Learnt,
-) (walk-row-at t) walk-row.Post walk-row-Inv-loop walk-row-μ-loop
+walk-row-walk-node-requires : (t : ℕ) → walk-row-lts.Need-walk-node-requires (walk-row-claims t) (walk-row-at t) walk-row.Post walk-row-Inv-loop walk-row-μ-loop
 walk-row-walk-node-requires t c κs = (
   omega (arith, c .before .before .before .before .before .before .before .before .pre .0, children-smaller (c .before .before .before .before .loop .inv) (c .before .before .before .loop-test .taken)),
   walked-node (c .before .before .before .before .loop .inv) (c .before .before .before .loop-test .taken) (c .before .before .split-of .ensures .0) (c .before .before .split-of .ensures .1),
 )
 
-walk-row-sibling-of-requires : (t : ℕ) → walk-row-lts.Need-sibling-of-requires (
-  split-of-reads.Asked,
-  split-of-reads.Learnt,
-  walk-node-below t,
-  walk-node.Post,
-  sibling-of-reads.Asked,
-  sibling-of-reads.Learnt,
-) (walk-row-at t) walk-row.Post walk-row-Inv-loop walk-row-μ-loop
+walk-row-sibling-of-requires : (t : ℕ) → walk-row-lts.Need-sibling-of-requires (walk-row-claims t) (walk-row-at t) walk-row.Post walk-row-Inv-loop walk-row-μ-loop
 walk-row-sibling-of-requires t c κs = walked-stands (c .before .before .before .loop .inv) (c .before .before .loop-test .taken)
 
-walk-row-loop-less : (t : ℕ) → walk-row-lts.Need-loop-less (
-  split-of-reads.Asked,
-  split-of-reads.Learnt,
-  walk-node-below t,
-  walk-node.Post,
-  sibling-of-reads.Asked,
-  sibling-of-reads.Learnt,
-) (walk-row-at t) walk-row.Post walk-row-Inv-loop walk-row-μ-loop
+walk-row-loop-less : (t : ℕ) → walk-row-lts.Need-loop-less (walk-row-claims t) (walk-row-at t) walk-row.Post walk-row-Inv-loop walk-row-μ-loop
 walk-row-loop-less t c = siblings-smaller (c .before .before .before .before .loop .inv) (c .before .before .before .loop-test .taken) (c .sibling-of .ensures)
 
-walk-row-loop-again : (t : ℕ) → walk-row-lts.Need-loop-again (
-  split-of-reads.Asked,
-  split-of-reads.Learnt,
-  walk-node-below t,
-  walk-node.Post,
-  sibling-of-reads.Asked,
-  sibling-of-reads.Learnt,
-) (walk-row-at t) walk-row.Post walk-row-Inv-loop walk-row-μ-loop
+walk-row-loop-again : (t : ℕ) → walk-row-lts.Need-loop-again (walk-row-claims t) (walk-row-at t) walk-row.Post walk-row-Inv-loop walk-row-μ-loop
 walk-row-loop-again t c =
     let l = c .before .before .before .before .loop .inv in
     let some = c .before .before .before .loop-test .taken in
@@ -236,33 +141,14 @@ walk-row-loop-again t c =
     ⊎-elim (λ w. rw (w .5, w .6, w .7) (walk-turns l some split next (w .2 .ensures .0) (w .2 .ensures .1) (w .2 .kept .1 .1 .1 .0)))
     (λ w. rw (w .1, w .2, w .3) (walk-passes l some split next (w .0 .left))) (c .before .if1 .came)
 
-walk-row-same-length : (t : ℕ) → walk-row-lts.Need-same-length (
-  split-of-reads.Asked,
-  split-of-reads.Learnt,
-  walk-node-below t,
-  walk-node.Post,
-  sibling-of-reads.Asked,
-  sibling-of-reads.Learnt,
-) (walk-row-at t) walk-row.Post walk-row-Inv-loop walk-row-μ-loop
+walk-row-same-length : (t : ℕ) → walk-row-lts.Need-same-length (walk-row-claims t) (walk-row-at t) walk-row.Post walk-row-Inv-loop walk-row-μ-loop
 walk-row-same-length t c = c .before .loop .inv .long
 
-walk-row-returns : (t : ℕ) → walk-row-lts.Need-returns (
-  split-of-reads.Asked,
-  split-of-reads.Learnt,
-  walk-node-below t,
-  walk-node.Post,
-  sibling-of-reads.Asked,
-  sibling-of-reads.Learnt,
-) (walk-row-at t) walk-row.Post walk-row-Inv-loop walk-row-μ-loop
+walk-row-returns : (t : ℕ) → walk-row-lts.Need-returns (walk-row-claims t) (walk-row-at t) walk-row.Post walk-row-Inv-loop walk-row-μ-loop
 walk-row-returns t c = walk-ends (c .before .loop .inv) (c .loop-test .left)
 
 pub +walk-node+walk-row-spec : {M : Type 1} → statement M
-+walk-node+walk-row-spec = close μ-walk-node μ-walk-row (λ t. walk-node-lts.spec (
-  child-of-reads.Asked,
-  child-of-reads.Learnt,
-  walk-row-below t,
-  walk-row.Post,
-)
++walk-node+walk-row-spec = close μ-walk-node μ-walk-row (λ t. walk-node-lts.spec (walk-node-claims t)
     (walk-node-at t)
     walk-node.Post
     (walk-node-child-of-requires t)
@@ -277,14 +163,7 @@ pub +walk-node+walk-row-spec : {M : Type 1} → statement M
     (walk-node-walk-row-requires-2 t)
     (walk-node-same-length-2 t)
     (walk-node-returns-2 t))
-    λ t. walk-row-lts.spec (
-      split-of-reads.Asked,
-      split-of-reads.Learnt,
-      walk-node-below t,
-      walk-node.Post,
-      sibling-of-reads.Asked,
-      sibling-of-reads.Learnt,
-    )
+    λ t. walk-row-lts.spec (walk-row-claims t)
     (walk-row-at t)
     walk-row.Post
     walk-row-Inv-loop

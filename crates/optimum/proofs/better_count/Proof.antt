@@ -1,4 +1,4 @@
--- `better_count`: the better of two counts by the line: the last one, unless the next costs less.
+-- `better_count`: the better of two numbers of caches by the entries of a line: `last`, unless `next` costs less.
 use borrow.Author.Needs.{needs}
 use Rattle.optimum.proofs.Budgets.{better-first, better-second}
 use Rattle.optimum.proofs.better_count.Statement.{statement}

@@ -1,4 +1,4 @@
--- `clear`: zeros from `start` up to `end`.
+-- `clear`: stores zeros from `start` up to `end`.
 use mathlib.Core.Path.{_≡_, refl}
 use Prim.Native.Nat.{_-_, _≤_}
 use native.Mathlib.Omega.{arith}

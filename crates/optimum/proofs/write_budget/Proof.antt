@@ -1,4 +1,4 @@
--- `write_budget`: writes the total and the row of budget b, and returns how many caches it takes; `last` is the budget ..
+-- `write_budget`: writes the total and the row of budget b, and returns how many caches it has; `last` is how many the budget before has.
 use mathlib.Core.Path.{ap}
 use Prim.Native.Nat.{_*_}
 use native.Mathlib.Omega.{arith}

@@ -1,6 +1,6 @@
 -- `make_report`: the plan, then the greedy rule in the same scratch.
 use borrow.Author.Needs.{needs}
-use Rattle.greedy.proofs.Answers.{granted-still}
+use Rattle.greedy.proofs.Answers.{room-still}
 use Rattle.report.proofs.Answers.{both-made}
 use Rattle.report.proofs.make_report.Statement.{statement}
 use Rattle.report.proofs.make_report.Tie as tie
@@ -9,7 +9,7 @@ make-plan-requires : tie.Need-make-plan-requires
 make-plan-requires c κs = let l = c .before .before .before .before .before .before .before .before .before .pre in (l .forPlan, l .planLong)
 
 run-requires : tie.Need-run-requires
-run-requires c κs = granted-still (c .before .before .before .before .before .before .before .before .before .before .before .before .before .before .before .before .before .before .before .pre .forGreedy) (c .before .before .before .before .before .before .before .before .before .make-plan .ensures .0 .long)
+run-requires c κs = room-still (c .before .before .before .before .before .before .before .before .before .before .before .before .before .before .before .before .before .before .before .pre .forGreedy) (c .before .before .before .before .before .before .before .before .before .make-plan .ensures .0 .long)
 
 same-length : tie.Need-same-length
 same-length c = search needs

@@ -1,4 +1,4 @@
--- `fill_empty`: stores the empty row's lines.
+-- `fill_empty`: stores the lines of the empty row.
 use mathlib.Core.Path.{_≡_}
 use Prim.Native.Nat.{_+_, _-_, _≤_}
 use native.Mathlib.Omega.{arith}

@@ -1,4 +1,4 @@
--- `fill_one`: makes line (v, a), where u is v's ancestor at depth a.
+-- `fill_one`: stores the line of node v with its ancestor u at depth a as the serving node.
 use mathlib.Core.Path.{_∙_}
 use Prim.Native.Nat.{_+_, _≤_}
 use native.Mathlib.Nat.{add-sub-cancel-left}
@@ -10,13 +10,12 @@ use Rattle.model.specs.File.{treeOf, demandOf}
 use Rattle.best_rows.specs.Best.{cap}
 use Rattle.best_rows.specs.TreeRows.{nextSibling}
 use Rattle.best_rows.specs.BestAt.{bestAt, childrenAt}
-use Rattle.lines.specs.Line.{mostWidth, LineParts, RowBounds}
-use Rattle.lines.proofs.Known.{Known}
+use Rattle.lines.specs.Line.{mostWidth, LineParts, RowBounds, LinesHoldBest}
 use Rattle.lines.proofs.Row.{row-parts, row-is-line}
 use Rattle.table.specs.Table.{width}
 use Rattle.table.proofs.Lines.{line-read, line-put, parts-read}
 use Rattle.table.proofs.Room.{room-sound}
-use Rattle.table.proofs.Reading.{served-room, served-place, served-width, served-fits, children-place, own-place, siblings-place, row-counted, served-itself, served-above-it, lines-known, lines-bounded, next-before}
+use Rattle.table.proofs.Reading.{served-room, served-place, served-width, served-fits, children-place, own-place, siblings-place, row-counted, served-itself, served-above-it, lines-hold-best, lines-bounded, next-before}
 use Rattle.table.proofs.fill_one.Statement.{statement}
 use Rattle.table.proofs.fill_one.Tie as tie
 
@@ -28,19 +27,19 @@ abbrev read : tie.After-width → tie.After-line3
 read c = c .before .before .before .before .before
 
 -- the three lines read are those of the children, with v as a cache and without, and of the later siblings
-known : (c : tie.After-line3) → let a = start c .args in
+held : (c : tie.After-line3) → let a = start c .args in
     let t = treeOf (a .file .now) in
     let d = demandOf (a .file .now) in
-    Known (width (a .tree)) (childrenAt t d (a .v) (a .u)) (bestAt t d (nextSibling t (a .v)) (a .u)) (c .before .before .line .result .now) (c .before .line2 .result .now) (c .line3 .result .now)
-known c =
-    let spare = c .before in
-    let taken = spare .before in
-    let deep = taken .before in
+    LinesHoldBest (width (a .tree)) (childrenAt t d (a .v) (a .u)) (bestAt t d (nextSibling t (a .v)) (a .u)) (c .before .before .line .result .now) (c .before .line2 .result .now) (c .line3 .result .now)
+held c =
+    let uncached = c .before in
+    let cached = uncached .before in
+    let deep = cached .before in
     let next = deep .before in
     let first = next .before in
     let st = start c in
-    lines-known (st .pre .0) (st .pre .1 .1) (next-before (st .pre .0) (st .pre .1 .1)) (first .child-of .ensures) (next .sibling-of .ensures) (deep .depth-word .ensures)
-    (taken .line .ensures) (spare .line2 .ensures) (c .line3 .ensures)
+    lines-hold-best (st .pre .0) (st .pre .1 .1) (next-before (st .pre .0) (st .pre .1 .1)) (first .child-of .ensures) (next .sibling-of .ensures) (deep .depth-word .ensures)
+    (cached .line .ensures) (uncached .line2 .ensures) (c .line3 .ensures)
 
 -- so the line can be made from them
 wide : (c : tie.After-width) → c .width .result ≤ mostWidth
@@ -52,15 +51,15 @@ parts c =
     let other = c .before .before .before in
     let member = other .before in
     let st = start (read c) in
-    parts-read _ _ _ (room-sound (st .pre .0 .ready .room)) (st .pre .1 .1) (known (read c)) (c .width .ensures) (member .pays .ensures) (other .pays2 .ensures)
+    parts-read _ _ _ (room-sound (st .pre .0 .stored .room)) (st .pre .1 .1) (held (read c)) (c .width .ensures) (member .pays .ensures) (other .pays2 .ensures)
 
 bounds : (c : tie.After-width) → let rest = read c in
-    let sizes = start (read c) .args .sizes .now in
-    RowBounds (c .width .result) (rest .before .before .line .result .now) (rest .before .line2 .result .now) (rest .line3 .result .now) (getD sizes (rest .before .before .before .before .before .child-of .result) 0) (getD sizes (rest .before .before .before .before .sibling-of .result) 0)
+    let counts = start (read c) .args .counts .now in
+    RowBounds (c .width .result) (rest .before .before .line .result .now) (rest .before .line2 .result .now) (rest .line3 .result .now) (getD counts (rest .before .before .before .before .before .child-of .result) 0) (getD counts (rest .before .before .before .before .sibling-of .result) 0)
 bounds c =
     let next = read c .before .before .before .before in
     let st = start (read c) in
-    lines-bounded (st .pre .0) (st .pre .1 .1) (known (read c)) (st .pre .1 .0) (next .before .child-of .ensures) (next .sibling-of .ensures) (c .width .ensures)
+    lines-bounded (st .pre .0) (st .pre .1 .1) (held (read c)) (st .pre .1 .0) (next .before .child-of .ensures) (next .sibling-of .ensures) (c .width .ensures)
 
 -- and it fits where it is to stand
 fits : (c : tie.After-line-at) → c .line-at .result + c .before .before .before .before .before .before .before .width .result ≤ length (start (read (c .before .before .before .before .before .before .before)) .args .s .now)
@@ -193,7 +192,7 @@ returns c =
     let member = other .before in
     let st = start (read w) in
     let l = made .row-line .ensures ∙ row-is-line (parts w) (bounds w) (wide w) (own .own-line .ensures) (copy .copy .ensures) in
-    let is = line-read _ _ _ _ (st .pre .1 .1) (known (read w)) (w .width .ensures) (member .pays .ensures) (other .pays2 .ensures) l in
+    let is = line-read _ _ _ _ (st .pre .1 .1) (held (read w)) (w .width .ensures) (member .pays .ensures) (other .pays2 .ensures) l in
     line-put _ _ _ (st .args .v) (st .args .a) _ _ (st .args .s .now) (fits at) (w .width .ensures) is ∙ rw (at .line-at .ensures)
 
 pub fill-one-spec : {M : Type 1} → statement M

@@ -1,20 +1,20 @@
--- `fill_table`: all lines, from the last node's down.
+-- `fill_table`: stores all lines, from the last node's to the first's.
 use mathlib.Core.Path.{_≡_, _∙_}
 use Prim.Native.Nat.{_≤_, _<_}
 use native.Mathlib.Nat.{le-refl}
 use native.Mathlib.Omega.{arith}
 use Rattle.node_words.proofs.Words.{room-some}
-use Rattle.table.specs.Table.{lineNumber, Made}
+use Rattle.table.specs.Table.{lineNumber, LinesFilled}
 use Rattle.table.proofs.Room.{room-long, room-place, room-nodes}
-use Rattle.table.proofs.Fill.{table-begins, next-node, table-whole, made-none, made-then}
+use Rattle.table.proofs.Fill.{table-begins, next-node, table-whole, filled-none, filled-then}
 use Rattle.table.proofs.fill_table.Statement.{statement}
 use Rattle.table.proofs.fill_table.Tie as tie
 
 abbrev Inv-loop : tie.InvT-loop
-Inv-loop file tree s₀ sizes v₀ s v = (0 < v) × (v ≤ tree .nodes) × Made file tree (lineNumber tree v 0) s₀ s
+Inv-loop file tree s₀ counts v₀ s v = (0 < v) × (v ≤ tree .nodes) × LinesFilled file tree (lineNumber tree v 0) s₀ s
 
 abbrev μ-loop : tie.MeasureT-loop
-μ-loop file tree s₀ sizes v₀ s v = v
+μ-loop file tree s₀ counts v₀ s v = v
 
 fill-empty-requires : tie.Need-fill-empty-requires Inv-loop μ-loop
 fill-empty-requires c κs = let r = c .before .before .before .before .pre .0 .room in (room-place r (room-some (room-nodes r)) (omega arith), room-long r)
@@ -22,7 +22,7 @@ fill-empty-requires c κs = let r = c .before .before .before .before .pre .0 .r
 loop-holds : tie.Need-loop-holds Inv-loop μ-loop
 loop-holds c =
     let st = c .before .before .before .before .before .before .before in
-    (room-some (room-nodes (st .pre .0 .room)), le-refl _, made-none (table-begins (st .pre .0) (c .before .before .fill-empty .ensures) .table))
+    (room-some (room-nodes (st .pre .0 .room)), le-refl _, filled-none (table-begins (st .pre .0) (c .before .before .fill-empty .ensures) .table))
 
 sub-v : tie.Need-sub-v Inv-loop μ-loop
 sub-v c = omega arith
@@ -42,7 +42,7 @@ loop-again c =
     let node = c .before .before in
     let more = node .before .before .loop-test .taken in
     let l = node .before .before .before .loop in
-    (omega (arith, more), omega (arith, l .inv .1), made-then (l .inv .2) (node .fill-node .ensures))
+    (omega (arith, more), omega (arith, l .inv .1), filled-then (l .inv .2) (node .fill-node .ensures))
 
 same-length : tie.Need-same-length Inv-loop μ-loop
 same-length c =
@@ -54,7 +54,7 @@ returns c =
     let l = c .before .loop in
     let st = c .before .before .before .before .before .before .before .before .before in
     let all : l .v ≡ 1 = omega (arith, l .inv .0) in
-    table-whole (made-then (table-begins (st .pre .0) (c .before .before .before .before .fill-empty .ensures)) (rw all at (l .inv .2)))
+    table-whole (filled-then (table-begins (st .pre .0) (c .before .before .before .before .fill-empty .ensures)) (rw all at (l .inv .2)))
 
 pub fill-table-spec : {M : Type 1} → statement M
 fill-table-spec =

@@ -1,4 +1,4 @@
--- `line`: the line of node x and serving depth a.
+-- `line`: the line of node x with a serving node at depth a.
 use Prim.Native.Nat.{_+_, _≤_}
 use native.Mathlib.Nat.{add-sub-cancel-left}
 use native.Mathlib.Omega.{arith}

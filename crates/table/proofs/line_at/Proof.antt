@@ -1,8 +1,9 @@
--- `line_at`: where the line of node x and serving depth a stands.
+-- `line_at`: the index of the first entry of the line of node x with a serving node at depth a.
 use mathlib.Core.Path.{ap}
 use Prim.Native.Nat.{_+_, _*_}
 use native.Mathlib.Omega.{arith}
 use borrow.Author.Needs.{needs}
+use Rattle.node_words.specs.Words.{nodeWords}
 use Rattle.table.specs.Table.{lineNumber, lineAt}
 use Rattle.table.proofs.Places.{rows-small, place-small}
 use Rattle.table.proofs.line_at.Statement.{statement}
@@ -31,7 +32,7 @@ add-result-3 c = omega (arith, place-small (c .before .before .before .pre) (c .
 
 returns : tie.Need-returns
 unfolding lineAt
-returns c = let st = c .before .before .before in ap (λ w. 4 * st .args .tree .nodes + lineNumber (st .args .tree) (st .args .x) (st .args .a) * w) (c .width .ensures)
+returns c = let st = c .before .before .before in ap (λ w. nodeWords * st .args .tree .nodes + lineNumber (st .args .tree) (st .args .x) (st .args .a) * w) (c .width .ensures)
 
 pub line-at-spec : {M : Type 1} → statement M
 line-at-spec =

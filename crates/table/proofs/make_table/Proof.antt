@@ -1,18 +1,18 @@
--- `make_table`: the words of the nodes and all lines of the plan's table; nothing behind them is touched.
+-- `make_table`: stores the words of the nodes and all lines of the plan's table, and changes nothing behind them.
 use borrow.Author.Needs.{needs}
 use Rattle.laws.proofs.Fronts.{front-only-then}
-use Rattle.table.proofs.Room.{room-nodes, ready-words}
-use Rattle.table.proofs.Fill.{words-made, words-front}
+use Rattle.table.proofs.Room.{room-nodes, stored-words}
+use Rattle.table.proofs.Fill.{words-stored, words-front}
 use Rattle.table.proofs.make_table.Statement.{statement}
 use Rattle.table.proofs.make_table.Tie as tie
 
 note-nodes-requires : tie.Need-note-nodes-requires
 note-nodes-requires c κs = room-nodes (c .before .before .before .pre)
 
-row-sizes-requires : tie.Need-row-sizes-requires
-row-sizes-requires c κs =
+row-nodes-requires : tie.Need-row-nodes-requires
+row-nodes-requires c κs =
     let noted = c .before .before .before in
-    record { file = _; of-file = ready-words (words-made (noted .before .before .before .before .pre) (noted .note-nodes .ensures .0) (noted .note-nodes .ensures .1)) }
+    record { file = _; of-file = stored-words (words-stored (noted .before .before .before .before .pre) (noted .note-nodes .ensures .0) (noted .note-nodes .ensures .1)) }
 
 slice-aggregate-fill-table : tie.Need-slice-aggregate-fill-table
 slice-aggregate-fill-table c = search needs
@@ -21,8 +21,8 @@ fill-table-requires : tie.Need-fill-table-requires
 fill-table-requires c κs =
     let sized = c .before .before in
     let noted = sized .before .before .before .before in
-    let ready = words-made (noted .before .before .before .before .pre) (noted .note-nodes .ensures .0) (noted .note-nodes .ensures .1) in
-    (ready, sized .row-sizes .ensures _ (ready-words ready))
+    let stored = words-stored (noted .before .before .before .before .pre) (noted .note-nodes .ensures .0) (noted .note-nodes .ensures .1) in
+    (stored, sized .row-nodes .ensures _ (stored-words stored))
 
 same-length : tie.Need-same-length
 same-length c = search needs
@@ -39,7 +39,7 @@ make-table-spec =
     tie.close
     (tie.spec
     note-nodes-requires
-    row-sizes-requires
+    row-nodes-requires
     slice-aggregate-fill-table
     fill-table-requires
     same-length

@@ -8,21 +8,21 @@ use Rattle.best_rows.specs.Rows.{rowSize}
 use Rattle.best_rows.specs.TreeRows.{rowAt}
 use Rattle.node_words.specs.Words.{NodeRoom, NodeWords}
 
--- the words of the n nodes of an accepted file
+-- the words hold what an accepted file of n nodes says of its nodes
 pub record FileWords (file : List ℕ) (n : ℕ) (words : List ℕ) : Type 0 where
   pub nodes : NodeRoom file n words
   pub stand : NodeWords (treeOf file) words
 
--- and of some such file
+-- the same of some accepted file
 pub record SomeFileWords (n : ℕ) (words : List ℕ) : Type 0 where
   pub file : List ℕ
   pub of-file : FileWords file n words
 
--- entry v is how many nodes the row has that begins with v, 0 for no node
-pub record RowSizes (t : Tree) (sizes : List ℕ) : Type 0 where
-  pub long : t .count ≤ length sizes
-  pub size : (v : ℕ) → v < t .count → getD sizes v 0 ≡ rowSize (rowAt t v)
+-- entry v is how many nodes the row has that begins with v; node 0 begins no row, and has 0
+pub record RowNodes (t : Tree) (counts : List ℕ) : Type 0 where
+  pub long : t .count ≤ length counts
+  pub size : (v : ℕ) → v < t .count → getD counts v 0 ≡ rowSize (rowAt t v)
 
--- of every accepted file that has these words
-abbrev pub RowSizesBy : ℕ → List ℕ → List ℕ → Type 0
-RowSizesBy n words sizes = (file : List ℕ) → FileWords file n words → RowSizes (treeOf file) sizes
+-- the same for every accepted file that has these words
+abbrev pub RowNodesBy : ℕ → List ℕ → List ℕ → Type 0
+RowNodesBy n words counts = (file : List ℕ) → FileWords file n words → RowNodes (treeOf file) counts

@@ -1,12 +1,12 @@
--- `sides_of`: a node with n caches at or below it, by whether it is one of them.
+-- `node_costs`: what a node and its children cost with n caches at or below the node, by whether the node is one of them.
 use mathlib.Core.Path.{sym, _∙_}
 use Prim.Native.Nat.{_-_}
 use native.Mathlib.Omega.{arith}
 use borrow.Author.Needs.{needs}
 use Rattle.best_rows.specs.Best.{cap}
-use Rattle.lines.proofs.Node.{side-without-caches, side-member, side-other}
-use Rattle.lines.proofs.sides_of.Statement.{statement}
-use Rattle.lines.proofs.sides_of.Tie as tie
+use Rattle.lines.proofs.Node.{cost-without-caches, cost-member, cost-other}
+use Rattle.lines.proofs.node_costs.Statement.{statement}
+use Rattle.lines.proofs.node_costs.Tie as tie
 
 mul-t7 : tie.Need-mul-t7
 mul-t7 c = search needs
@@ -18,11 +18,11 @@ plus-requires : tie.Need-plus-requires
 unfolding cap
 plus-requires c κs =
     let s = c .before .before .before in
-    omega (arith, s .pre .spare-line .within (s .args .n) (omega arith))
+    omega (arith, s .pre .uncached-line .within (s .args .n) (omega arith))
 
 returns : tie.Need-returns
 unfolding cap
-returns c = (sym (side-without-caches _ _ _ _ _ (omega arith)), c .before .plus .ensures ∙ sym (side-other _ _ _ _ _))
+returns c = (sym (cost-without-caches _ _ _ _ _ (omega arith)), c .before .plus .ensures ∙ sym (cost-other _ _ _ _ _))
 
 sub-t7 : tie.Need-sub-t7
 sub-t7 c = search needs
@@ -37,14 +37,14 @@ plus-requires-2 : tie.Need-plus-requires-2
 unfolding cap
 plus-requires-2 c κs =
     let s = c .before .before .before .before .before .before in
-    omega (arith, s .pre .taken-line .within (s .args .n - 1) (omega arith))
+    omega (arith, s .pre .cached-line .within (s .args .n - 1) (omega arith))
 
 returns-2 : tie.Need-returns-2
 returns-2 c =
-    (c .plus2 .ensures ∙ sym (side-member _ _ _ _ _ (omega arith)), c .before .before .before .plus .ensures ∙ sym (side-other _ _ _ _ _))
+    (c .plus2 .ensures ∙ sym (cost-member _ _ _ _ _ (omega arith)), c .before .before .before .plus .ensures ∙ sym (cost-other _ _ _ _ _))
 
-pub sides-of-spec : {M : Type 1} → statement M
-sides-of-spec =
+pub node-costs-spec : {M : Type 1} → statement M
+node-costs-spec =
     tie.close
     (tie.spec
     mul-t7
