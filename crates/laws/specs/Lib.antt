@@ -1,3 +1,4 @@
 pub mod Lists
+pub mod Slices
 pub mod FirstGreatest
 pub mod Fronts
