@@ -1,13 +1,16 @@
 -- The ranking call answer by answer: each refusal, and the set that ranks first.
-use mathlib.Core.Path.{_≡_, sym, ap, _∙_}
+use mathlib.Core.Path.{_≡_, sym, ap, subst, _∙_}
 use mathlib.Core.Bool.{true, false}
 use mathlib.Core.List.{List}
 use Prim.Native.Nat.{ℕ}
+use denote.Builtin.{u16}
+use denote.Ref.{now}
+use Rattle.laws.specs.Slices.{Slice}
 use Rattle.model.specs.File.{treeOf, demandOf, countOf}
 use Rattle.model.specs.Rules.{passed, broken, fileVerdict, ascends}
 use Rattle.model.specs.Ties.{ranksBefore}
-use Rattle.model.specs.Calls.{answered, refused, first, second, rankVerdict, ranking, named, winner}
-use Rattle.compare.specs.Answers.{rankingOf}
+use Rattle.model.specs.Calls.{Answer, answered, refused, Winner, first, second, rankVerdict, ranking, named, winner}
+use Rattle.compare.specs.Answers.{rankingOf, WinnerHandedBack}
 use Rattle.compare.specs.declared.Ranking.{Ranking}
 
 module _ (file k l : List ℕ) where
@@ -36,6 +39,15 @@ module _ (file k l : List ℕ) where
         unfolding ranking rankVerdict
         ranking-first e = rw (sym ok, rw nodes at first-set, rw nodes at second-set, e)
 
--- the set that an answer of the code names
-pub named-by : {r : Ranking} (file k l : List ℕ) {s : Ranking} → r ≡ s → rankingOf r ≡ ranking file k l → named (rankingOf s) k l ≡ winner file k l
-named-by file k l e h = ap (λ a. named a k l) (ap rankingOf (sym e) ∙ h)
+module _ (file : List ℕ) (k l r : Slice u16) where
+  -- the slice handed back holds the set that an answer names
+  holds-named : (a : Answer Winner) → WinnerHandedBack a k l r → now r ≡ named a (now k) (now l)
+  holds-named (answered first) h = ap now h
+  holds-named (answered second) h = ap now h
+  holds-named (refused q i) h = h .entries
+
+  -- what the call owes, by an answer of the code
+  pub handed-back : {a b : Ranking} → a ≡ b → rankingOf a ≡ ranking file (now k) (now l) → WinnerHandedBack (rankingOf b) k l r
+      → (now r ≡ winner file (now k) (now l)) × WinnerHandedBack (ranking file (now k) (now l)) k l r
+  handed-back {b = b} e h w =
+      subst (λ n. (now r ≡ named n (now k) (now l)) × WinnerHandedBack n k l r) (ap rankingOf (sym e) ∙ h) (holds-named (rankingOf b) w, w)

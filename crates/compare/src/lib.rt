@@ -8,7 +8,7 @@ ghost use Rattle.model.specs.Ties.{visits, ranksBefore};
 ghost use Rattle.model.specs.Calls.{ranking, winner};
 ghost use Rattle.placement.specs.Passes.{Billable};
 ghost use Rattle.compare.specs.Counting.{Counted, Countable, Comparable};
-ghost use Rattle.compare.specs.Answers.{rankingOf};
+ghost use Rattle.compare.specs.Answers.{rankingOf, WinnerHandedBack};
 
 // The set that ranks first, or the refusal with its number and record.
 pub enum Ranking {
@@ -137,6 +137,7 @@ pub fn rank(file: &[u8], first: &[u16], second: &[u16]) -> Ranking
 // apart.
 pub fn winner<'a>(file: &[u8], first: &'a [u16], second: &'a [u16]) -> &'a [u16]
     ensures { λ r. ⌜ now r ≡ winner (now (file .entry)) (now (first .entry)) (now (second .entry)) ⌝ }
+    ensures { λ r. ⌜ WinnerHandedBack (ranking (now (file .entry)) (now (first .entry)) (now (second .entry))) (first .entry) (second .entry) r ⌝ }
 {
     let answer = rank(file, first, second);
     match answer {

@@ -1,1 +1,1 @@
-// General definitions and laws on numbers, lists and stores: see specs/ and proofs/. There is no code here.
+// General definitions and laws on numbers, lists, slices and stores: see specs/ and proofs/. There is no code here.

@@ -2,13 +2,16 @@
 ghost use mathlib.Core.Path.{_≡_};
 ghost use Prim.Native.Nat.{_≤_, max};
 ghost use lib.ListN.{length};
-ghost use Rattle.laws.specs.Lists.{has, part};
+ghost use denote.Builtin.{u8};
+ghost use Rattle.laws.specs.Lists.{has};
+ghost use Rattle.laws.specs.Slices.{PartOf};
 ghost use Rattle.model.specs.File.{countOf, headerLength, recordAt, recordLength, treeOf, demandOf};
 ghost use Rattle.model.specs.Tree.{route, depth, height};
 ghost use Rattle.model.specs.Rules.{passed, marked, parentHolds, lengthHolds, recordVerdict, recordsVerdict, fileVerdict};
 ghost use Rattle.model.specs.Calls.{answer, checkNumber, recordBytes};
 ghost use Rattle.fields.specs.Table.{InFile};
 ghost use Rattle.tree_file.specs.Checks.{verdictOf, answerOf, sizesOf, Climbable, DepthsTo, NextRecord, RecordsThere};
+ghost use Rattle.tree_file.specs.Places.{RecordHandedBack};
 
 // The first no among the rules asked, with its number and record, if there is one.
 pub enum Ruling {
@@ -223,7 +226,7 @@ pub fn check(file: &[u8]) -> Checked
 
 fn record_at(file: &[u8], v: usize) -> &[u8]
     requires { ⌜ InFile (now file) v ⌝ }
-    ensures { λ r. ⌜ now r ≡ part (now (file .entry)) (recordAt v) recordLength ⌝ }
+    ensures { λ r. ⌜ PartOf u8 (file .entry) (recordAt v) recordLength r ⌝ }
 {
     let start = fields::Tree::HEADER + fields::Tree::RECORD * v;
     let end = start + fields::Tree::RECORD;
@@ -233,6 +236,7 @@ fn record_at(file: &[u8], v: usize) -> &[u8]
 // The ten bytes of node v inside the caller's file, empty if the file is refused or v is not below n.
 pub fn record_of(file: &[u8], v: usize) -> &[u8]
     ensures { λ r. ⌜ now r ≡ recordBytes (now (file .entry)) v ⌝ }
+    ensures { λ r. ⌜ RecordHandedBack (file .entry) v r ⌝ }
 {
     let ruling = file_ruling(file);
     match ruling {

@@ -1,6 +1,7 @@
 -- `winner`: the set that ranks first, empty on refusal.
+use mathlib.Core.Path.{refl}
 use borrow.Author.Needs.{needs}
-use Rattle.compare.proofs.Rankings.{named-by}
+use Rattle.compare.proofs.Rankings.{handed-back}
 use Rattle.compare.proofs.winner.Statement.{statement}
 use Rattle.compare.proofs.winner.Tie as tie
 
@@ -26,13 +27,13 @@ part-result-end : tie.Need-part-result-end
 part-result-end c = search needs
 
 returns : tie.Need-returns
-returns c = named-by _ _ _ (c .enum-told .given .1) (c .before .before .rank .ensures)
+returns c = handed-back _ _ _ _ (c .enum-told .given .1) (c .before .before .rank .ensures) refl
 
 returns-2 : tie.Need-returns-2
-returns-2 c = named-by _ _ _ (c .enum-told2 .given .1) (c .before .before .rank .ensures)
+returns-2 c = handed-back _ _ _ _ (c .enum-told2 .given .1) (c .before .before .rank .ensures) refl
 
 returns-3 : tie.Need-returns-3
-returns-3 c = named-by _ _ _ (c .before .enum-told3 .given .1) (c .before .before .before .rank .ensures)
+returns-3 c = handed-back _ _ _ _ (c .before .enum-told3 .given .1) (c .before .before .before .rank .ensures) (search needs)
 
 pub winner-spec : {M : Type 1} → statement M
 winner-spec =

@@ -1,5 +1,7 @@
 -- `record_at` keeps its contract.
+use mathlib.Core.Path.{refl}
 use native.Mathlib.Nat.{add-sub-cancel-left}
+use native.Mathlib.Omega.{arith}
 use borrow.Author.Needs.{needs}
 use Rattle.tree_file.proofs.record_at.Statement.{statement}
 use Rattle.tree_file.proofs.record_at.Tie as tie
@@ -23,7 +25,7 @@ part-result-end : tie.Need-part-result-end
 part-result-end c = search needs
 
 returns : tie.Need-returns
-returns c = simp add-sub-cancel-left
+returns c = record { block = refl; start = omega arith; entries = simp add-sub-cancel-left }
 
 pub record-at-spec : {M : Type 1} → statement M
 record-at-spec =

@@ -1,5 +1,5 @@
 -- `record_of`: the ten bytes of node v inside the caller's file, empty if the file is refused or v is not below n.
-use mathlib.Core.Path.{sym, _∙_}
+use mathlib.Core.Path.{sym}
 use native.Mathlib.Omega.{arith}
 use borrow.Author.Needs.{needs}
 use Rattle.tree_file.proofs.Accepted.{accepted-long, accepted-in-file}
@@ -26,7 +26,7 @@ part-result-end : tie.Need-part-result-end
 part-result-end c = search needs
 
 returns : tie.Need-returns
-returns c = record-beyond _ _ (told (c .before .before .before .enum-told .given .1) (c .before .before .before .before .before .file-ruling .ensures)) (omega (arith, c .before .before .count-of .ensures, c .before .if1 .taken))
+returns c = record-beyond _ _ (told (c .before .before .before .enum-told .given .1) (c .before .before .before .before .before .file-ruling .ensures)) (omega (arith, c .before .before .count-of .ensures, c .before .if1 .taken)) (search needs)
 
 record-at-requires : tie.Need-record-at-requires
 record-at-requires c κs = accepted-in-file _ (sym (told (c .before .before .enum-told .given .1) (c .before .before .before .before .file-ruling .ensures))) _ (omega (arith, c .before .count-of .ensures, c .if1 .left))
@@ -44,10 +44,10 @@ part-result-end-2 : tie.Need-part-result-end-2
 part-result-end-2 c = search needs
 
 returns-2 : tie.Need-returns-2
-returns-2 c = c .record-at .ensures ∙ record-here _ _ (told (c .before .before .before .enum-told .given .1) (c .before .before .before .before .before .file-ruling .ensures)) (omega (arith, c .before .before .count-of .ensures, c .before .if1 .left))
+returns-2 c = record-here _ _ (told (c .before .before .before .enum-told .given .1) (c .before .before .before .before .before .file-ruling .ensures)) (omega (arith, c .before .before .count-of .ensures, c .before .if1 .left)) (c .record-at .ensures)
 
 returns-3 : tie.Need-returns-3
-returns-3 c = record-refused _ _ _ _ (told (c .before .enum-told2 .given .1) (c .before .before .before .file-ruling .ensures))
+returns-3 c = record-refused _ _ _ _ (told (c .before .enum-told2 .given .1) (c .before .before .before .file-ruling .ensures)) (search needs)
 
 pub record-of-spec : {M : Type 1} → statement M
 record-of-spec =
