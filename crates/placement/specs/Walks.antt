@@ -51,6 +51,14 @@ module _ (t : Tree) (d : Demand) (k loads : List ℕ) where
     pub loadsAbove : load ≡ sum (linkLoad t d k) (those (childOf t v) (range i (e - i)))
     pub walked : Walked i e relief loads′
 
+  -- the same row on the way, when it has come to node e
+  pub record RowUpTo (v i e load relief : ℕ) (loads′ : List ℕ) : Type 0 where
+    pub from : i ≤ e
+    pub within : (c : ℕ) → i ≤ c → c < e → atOrBelow t v c ≡ true
+    pub goesOn : Begins t v e
+    pub loadsAbove : load ≡ sum (linkLoad t d k) (those (childOf t v) (range i (e - i)))
+    pub walked : Walked i e relief loads′
+
 -- what the row of a node's children can bring
 pub record Bounded (load relief : ℕ) : Type 0 where
   pub loads : load ≤ mostOfRow
