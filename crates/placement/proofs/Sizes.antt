@@ -14,7 +14,7 @@ use Rattle.model.specs.Tree.{route, atOrBelow}
 use Rattle.model.specs.Bill.{thousandths, upTo, clientLoad, linkLoad}
 use Rattle.model.proofs.Accepted.{Sound}
 use Rattle.model.proofs.Children.{relieved, childOf}
-use Rattle.placement.specs.Walks.{mostSent, mostLoad, mostOfRow, Walked, NodeWalked}
+use Rattle.placement.specs.Walks.{mostSent, mostLoad, mostOfRow, RangeWalked, NodeWalked}
 
 module _ (t : Tree) (d : Demand) (ok : Sound t d) where
   -- a client's cachable flow is a part of its flow, and the rest is what it sends once served
@@ -39,7 +39,7 @@ module _ (t : Tree) (d : Demand) (ok : Sound t d) where
   link-load-bound k (suc v) =
       omega (arith, ok .few, sum-those-le (clientLoad t d k (suc v)) (atOrBelow t (suc v)) mostSent 0 (t .count) (client-load-bound k (suc v)))
 
-  pub relief-bound : {k loads loads′ : List ℕ} {i e relief : ℕ} → e ≤ t .count → Walked t d k loads i e relief loads′ → relief ≤ mostLoad
+  pub relief-bound : {k loads loads′ : List ℕ} {i e relief : ℕ} → e ≤ t .count → RangeWalked t d k loads i e relief loads′ → relief ≤ mostLoad
   relief-bound {i = i} {e = e} h w = omega (arith, ok .few, w .relieves, sum-le (relieved d) mostSent i (e - i) relieved-bound)
 
   pub node-load-bound : {k loads loads′ : List ℕ} {v e load relief : ℕ} → NodeWalked t d k loads v e load relief loads′ → load ≤ mostLoad

@@ -67,22 +67,20 @@ module _ {file servings loads : List ℕ} {n : ℕ} (given : Walkable file n ser
     pub row-over : n ≤ e → RowWalked t d k loads v i e load relief loads′
     row-over h = row-at-end t d k (given .ofFile .sound .preorder) w (omega (arith, given .ofFile .nodes))
 
-    module _ (more : e < n) {p : ℕ} (is-parent : p ≡ t .parent e) where
-      -- node e is not below v
-      pub row-left : p < v → RowWalked t d k loads v i e load relief loads′
-      row-left h = row-stops t d k (given .ofFile .sound .preorder) w (omega arith)
+    -- node e is not below v
+    pub row-left : {p : ℕ} → p ≡ t .parent e → p < v → RowWalked t d k loads v i e load relief loads′
+    row-left is-parent h = row-stops t d k (given .ofFile .sound .preorder) w (omega arith)
 
-      -- it is a child of v, and is walked
-      module _ {loads″ : List ℕ} {e₂ load₂ relief₂ : ℕ} (child : v ≤ p) (next : NodeWalked t d k loads′ e e₂ load₂ relief₂ loads″) where
-        pub sums-fit : (load + load₂ < 2 ^ 64) × (relief + relief₂ < 2 ^ 64)
-        sums-fit =
-            let sound = given .ofFile .sound in (
-              omega (arith, row-load-bound t d sound k v i e (w .goesOn .inFile) (w .loadsAbove), node-load-bound t d sound next),
-              omega (arith, relief-bound t d sound (w .goesOn .inFile) (w .walked), relief-bound t d sound (next .ends .inFile) (next .walked)),
-            )
+    -- it is a child of v, and is walked
+    module _ {loads″ : List ℕ} {e₂ load₂ relief₂ : ℕ} (next : NodeWalked t d k loads′ e e₂ load₂ relief₂ loads″) where
+      pub sums-fit : (load + load₂ < 2 ^ 64) × (relief + relief₂ < 2 ^ 64)
+      sums-fit =
+          let sound = given .ofFile .sound in (
+            omega (arith, row-load-bound t d sound k v i e (w .goesOn .inFile) (w .loadsAbove), node-load-bound t d sound next),
+            omega (arith, relief-bound t d sound (w .goesOn .inFile) (w .walked), relief-bound t d sound (next .ends .inFile) (next .walked)),
+          )
 
-        pub row-joined : {end above whole : ℕ} → (end ≡ e₂) × (above ≡ load + load₂) × (whole ≡ relief + relief₂)
-            → RowUpTo t d k loads v i end above whole loads″
-        row-joined is =
-            rw (is .0, is .1, is .2)
-            (row-goes-on t d k (given .ofFile .sound .preorder) w (omega (arith, given .ofFile .nodes)) (omega arith) next)
+      pub row-joined : {p end above whole : ℕ} → p ≡ t .parent e → v ≤ p → (end ≡ e₂) × (above ≡ load + load₂) × (whole ≡ relief + relief₂)
+          → RowUpTo t d k loads v i end above whole loads″
+      row-joined is-parent child is =
+          rw (is .0, is .1, is .2) (row-goes-on t d k (given .ofFile .sound .preorder) w (omega arith) next)

@@ -18,7 +18,7 @@ use Rattle.model.specs.Bill.{thousandths, linkLoad}
 use Rattle.model.proofs.Routes.{Preorder, route-ends}
 use Rattle.model.proofs.Intervals.{below-self, before-not-below, below-after, below-parent, below-trans, end-parent, subtree-is-range}
 use Rattle.model.proofs.Children.{relieved, childOf, children-in-subtree, load-above-member, load-above-other}
-use Rattle.placement.specs.Walks.{Begins, Ends, Walked, NodeWalked, RowWalked, RowUpTo}
+use Rattle.placement.specs.Walks.{Begins, Ends, RangeWalked, NodeWalked, RowWalked, RowUpTo}
 
 module _ (t : Tree) (pre : Preorder t) where
   -- ---- where walks begin and end
@@ -81,23 +81,23 @@ module _ (t : Tree) (pre : Preorder t) where
 -- ---- what walks write, one after the other
 
 module _ (t : Tree) (d : Demand) (k : List ℕ) where
-  walked-none : (loads : List ℕ) (i : ℕ) → Walked t d k loads i i 0 loads
+  walked-none : (loads : List ℕ) (i : ℕ) → RangeWalked t d k loads i i 0 loads
   unfolding sum
   walked-none loads i = record { relieves = rw (range-none i); writes = rw (range-none i) }
 
   walked-joined : {loads loads′ loads″ : List ℕ} {i e e₂ r r₂ : ℕ} → i ≤ e → e ≤ e₂
-      → Walked t d k loads i e r loads′ → Walked t d k loads′ e e₂ r₂ loads″ → Walked t d k loads i e₂ (r + r₂) loads″
+      → RangeWalked t d k loads i e r loads′ → RangeWalked t d k loads′ e e₂ r₂ loads″ → RangeWalked t d k loads i e₂ (r + r₂) loads″
   walked-joined {loads} {i = i} {e = e} {e₂ = e₂} p q w w₂ = record {
     relieves = rw (range-cut i e e₂ p q) (omega (arith, w .relieves, w₂ .relieves, sum-append (relieved d) (range i (e - i)) (range e (e₂ - e))));
     writes = w₂ .writes ∙ ap (λ l. sets l e (map (linkLoad t d k) (range e (e₂ - e)))) (w .writes) ∙ stores-join loads (linkLoad t d k) i e e₂ p q;
   }
 
   -- no entry comes or goes
-  pub walked-kept : {loads loads′ : List ℕ} {i e r : ℕ} → Walked t d k loads i e r loads′ → length loads′ ≡ length loads
+  pub walked-kept : {loads loads′ : List ℕ} {i e r : ℕ} → RangeWalked t d k loads i e r loads′ → length loads′ ≡ length loads
   walked-kept w = ap length (w .writes) ∙ simp length-sets
 
-  walked-first : {loads loads′ : List ℕ} {v e r : ℕ} → v < e → Walked t d k loads (v + 1) e r loads′
-      → Walked t d k loads v e (relieved d v + r) (set loads′ v (linkLoad t d k v))
+  walked-first : {loads loads′ : List ℕ} {v e r : ℕ} → v < e → RangeWalked t d k loads (v + 1) e r loads′
+      → RangeWalked t d k loads v e (relieved d v + r) (set loads′ v (linkLoad t d k v))
   unfolding sum
   walked-first {loads} {v = v} {e = e} h w = record {
     relieves = rw (range-first v e h) (omega (arith, w .relieves));
@@ -134,11 +134,12 @@ module _ (t : Tree) (d : Demand) (k : List ℕ) where
       row-stops h = row-done (λ _. not-below t pre v e (w .goesOn) h)
 
       -- node e is a child of v, and is walked: the row has come to the node after it
-      pub row-goes-on : {loads″ : List ℕ} {e₂ load₂ relief₂ : ℕ} → e < t .count → v ≤ t .parent e
-          → NodeWalked t d k loads′ e e₂ load₂ relief₂ loads″ → RowUpTo t d k loads v i e₂ (load + load₂) (relief + relief₂) loads″
+      pub row-goes-on : {loads″ : List ℕ} {e₂ load₂ relief₂ : ℕ} → v ≤ t .parent e → NodeWalked t d k loads′ e e₂ load₂ relief₂ loads″
+          → RowUpTo t d k loads v i e₂ (load + load₂) (relief + relief₂) loads″
       unfolding sum
-      row-goes-on {e₂ = e₂} h l x =
+      row-goes-on {e₂ = e₂} l x =
           let far : e ≤ e₂ = omega (arith, x .ends .from) in
+          let h : e < t .count = omega (arith, x .ends .from, x .ends .inFile) in
           record {
             from = omega (arith, w .from);
             within = within-again t pre v e (w .goesOn) h l e₂ (x .ends) i (w .within);

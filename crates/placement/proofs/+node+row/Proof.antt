@@ -66,8 +66,9 @@ node-cast-raised t c = omega (arith, c .shared-slice-known3 .given (c .before .b
 
 node-raised-requires : (t : ℕ) → node-lts.Need-raised-requires (node-claims t) (node-at t) node.Post
 node-raised-requires t c κs =
-    let start = c .before .before .before .before .before .before .before .before in
-    ((start .pre .1 .0 .ofFile, start .pre .1 .1 .1), row-bounded (start .pre .1 .0) (c .before .before .before .row .ensures))
+    let children = c .before .before .before in
+    let start = children .before .before .before .before .before in
+    ((start .pre .1 .0 .ofFile, start .pre .1 .1 .1), row-bounded (start .pre .1 .0) (children .row .ensures))
 
 node-mul-loads : (t : ℕ) → node-lts.Need-mul-loads (node-claims t) (node-at t) node.Post
 node-mul-loads t c = search needs
@@ -80,8 +81,9 @@ node-same-length t c = search needs
 
 node-returns : (t : ℕ) → node-lts.Need-returns (node-claims t) (node-at t) node.Post
 node-returns t c =
-    let start = c .before .before .before .before .before .before .before .before .before in
-    node-raised (start .pre .1 .0) (start .pre .1 .1 .0) (start .pre .1 .1 .1) (c .before .before .before .before .row .ensures) (c .raised .ensures .0) (c .raised .ensures .1)
+    let children = c .before .before .before .before in
+    let start = children .before .before .before .before .before in
+    node-raised (start .pre .1 .0) (start .pre .1 .1 .0) (start .pre .1 .1 .1) (children .row .ensures) (c .raised .ensures .0) (c .raised .ensures .1)
 
 abbrev row-Inv-loop : row-lts.InvT-loop
 row-Inv-loop file n servings loads₀ v i walk₀ loads walk =
@@ -105,28 +107,25 @@ row-same-length t c =
 
 row-returns : (t : ℕ) → row-lts.Need-returns (row-claims t) (row-at t) row.Post row-Inv-loop row-μ-loop
 row-returns t c =
-    let test = c .before .before in
-    let turn = test .before .before in
+    let parent = c .before in
+    let turn = parent .before .before .before in
     let start = turn .before .before .before .before in
-    row-left (start .pre .1 .0) (turn .loop .inv) (test .if1 .taken) (c .before .parent-of .ensures) (c .if2 .taken)
+    row-left (start .pre .1 .0) (turn .loop .inv) (parent .parent-of .ensures) (c .if2 .taken)
 
 row-node-requires : (t : ℕ) → row-lts.Need-node-requires (row-claims t) (row-at t) row.Post row-Inv-loop row-μ-loop
 row-node-requires t c κs =
     let test = c .before .before .before in
     let turn = test .before .before in
     let start = turn .before .before .before .before in
-    let inv = turn .loop .inv in
-    (omega (arith, start .pre .0, inv .from, test .if1 .taken), (row-walkable (start .pre .1 .0) inv, (omega (arith, inv .goesOn .after), test .if1 .taken)))
+    let so-far = turn .loop .inv in
+    (omega (arith, start .pre .0, so-far .from, test .if1 .taken), (row-walkable (start .pre .1 .0) so-far, (omega (arith, so-far .goesOn .after), test .if1 .taken)))
 
 row-joined-requires : (t : ℕ) → row-lts.Need-joined-requires (row-claims t) (row-at t) row.Post row-Inv-loop row-μ-loop
 row-joined-requires t c κs =
     let walked = c .before .before in
-    let child = walked .before .before in
-    let parent = child .before in
-    let test = parent .before in
-    let turn = test .before .before in
+    let turn = walked .before .before .before .before .before .before in
     let start = turn .before .before .before .before in
-    sums-fit (start .pre .1 .0) (turn .loop .inv) (test .if1 .taken) (parent .parent-of .ensures) (child .if2 .left) (walked .node .ensures)
+    sums-fit (start .pre .1 .0) (turn .loop .inv) (walked .node .ensures)
 
 row-loop-less : (t : ℕ) → row-lts.Need-loop-less (row-claims t) (row-at t) row.Post row-Inv-loop row-μ-loop
 row-loop-less t c =
@@ -138,10 +137,9 @@ row-loop-again t c =
     let walked = c .before .before .before in
     let child = walked .before .before in
     let parent = child .before in
-    let test = parent .before in
-    let turn = test .before .before in
+    let turn = parent .before .before .before in
     let start = turn .before .before .before .before in
-    row-joined (start .pre .1 .0) (turn .loop .inv) (test .if1 .taken) (parent .parent-of .ensures) (child .if2 .left) (walked .node .ensures) (c .joined .ensures)
+    row-joined (start .pre .1 .0) (turn .loop .inv) (walked .node .ensures) (parent .parent-of .ensures) (child .if2 .left) (c .joined .ensures)
 
 row-same-length-2 : (t : ℕ) → row-lts.Need-same-length-2 (row-claims t) (row-at t) row.Post row-Inv-loop row-μ-loop
 row-same-length-2 t c =
