@@ -13,6 +13,9 @@
  * Answers. Node numbers are of 16 bits, totals and loads of 64 bits in thousandths. Arrays may be longer than asked: entries
  * beyond those written stay.
  *
+ * Stack. A call needs KTERC_.._STACK bytes of its thread's stack, whatever the file. They are measured, on x86-64 and with a
+ * margin of a third or more, and not proved.
+ *
  * Result. 0: accepted, the answers are written. Else the call is refused: KTERC_RULE tells the number of the first broken rule,
  * KTERC_RECORD the record it broke on (0 where no record is at fault), and nothing is changed, neither answers nor scratch.
  */
@@ -31,6 +34,14 @@ extern "C" {
 #define KTERC_BUDGET 32
 #define KTERC_DEPTH 32
 #define KTERC_SCRATCH_WORDS (KTERC_NODES * (KTERC_DEPTH + 1) * (KTERC_BUDGET + 1) + 4 * KTERC_NODES)
+
+/* The stack of each call, in bytes. */
+#define KTERC_CHECK_STACK (16 * 1024)
+#define KTERC_SCRATCH_WORDS_STACK (24 * 1024)
+#define KTERC_BILL_STACK (16 * 1024)
+#define KTERC_PLAN_STACK (40 * 1024)
+#define KTERC_GREEDY_STACK (24 * 1024)
+#define KTERC_REPORT_STACK (40 * 1024)
 
 #define KTERC_RULE(answer) ((answer) % 256)
 #define KTERC_RECORD(answer) ((answer) / 256)

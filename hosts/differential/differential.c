@@ -1,5 +1,5 @@
 /* The proved library against the reference in C: random trees of every size, damaged files, buffers of wrong lengths, and guard
- * words around all that is lent. Stops at the first difference. */
+ * words around all that is lent. Stops at the first difference. Then the stack that the calls take. */
 #include <inttypes.h>
 #include <stdio.h>
 #include <stdlib.h>
@@ -8,6 +8,7 @@
 #include "kterc.h"
 #include "lend.h"
 #include "reference.h"
+#include "stack.h"
 #include "trees.h"
 
 /* Trees of one size and of few nodes, and damaged files of each tree. */
@@ -229,5 +230,5 @@ int main(void)
     printf("%ld damaged files\n", count.damaged);
     printf("%ld calls, %ld of them refused, with guards around every buffer\n", count.calls, count.refused);
     printf("none differed\n");
-    return 0;
+    return !stacks_suffice();
 }

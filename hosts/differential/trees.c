@@ -15,13 +15,12 @@ static void put(uint8_t *at, uint32_t value, int width)
 
 /* ---- shapes: node i hangs below node i - 1 or an ancestor of it */
 
-enum shape { STAR, PATHS, COMB, BUSH, DEEP, SHAPES };
-
 static int parent_of(enum shape shape, int i, const int *parent, const int *depth, uint64_t *seed)
 {
     int u = i - 1, links;
     if (shape == STAR) return 0;
     if (shape == PATHS) return depth[u] < DEPTH ? u : 0;
+    if (shape == BROOM) return depth[u] < DEPTH ? u : parent[u];
     if (shape == COMB) links = depth[u] > 1 ? upto(1, seed) * 2 : 0;
     else if (shape == BUSH) links = upto(depth[u], seed);
     else links = upto(3, seed) ? 0 : upto(depth[u], seed);
@@ -47,9 +46,8 @@ static void put_values(uint8_t *record, int kind, int i, uint64_t *seed)
     put(record + 8, hit, 2);
 }
 
-size_t random_tree(uint8_t *file, int n, int k, uint64_t *seed)
+size_t shaped_tree(uint8_t *file, enum shape shape, int n, int k, uint64_t *seed)
 {
-    enum shape shape = upto(SHAPES - 1, seed);
     int kind = upto(5, seed), parent[NODES] = { 0 }, depth[NODES] = { 0 };
     memcpy(file, "KTR", 3);
     put(file + 3, 1, 2);
@@ -65,6 +63,12 @@ size_t random_tree(uint8_t *file, int n, int k, uint64_t *seed)
         put_values(record, kind, i, seed);
     }
     return HEADER + RECORD * (size_t)n;
+}
+
+size_t random_tree(uint8_t *file, int n, int k, uint64_t *seed)
+{
+    enum shape shape = upto(SHAPES - 1, seed);
+    return shaped_tree(file, shape, n, k, seed);
 }
 
 /* ---- damage */

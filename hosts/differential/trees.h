@@ -5,8 +5,15 @@
 #include <stddef.h>
 #include <stdint.h>
 
-/* Writes the file of a random tree of n nodes with budget k and returns its length. Shapes from a star to paths of depth 32 and
- * values from all equal to the full range come in turn by the seed. */
+/* All nodes below the server; paths of depth 32; a path, then leaves at depth 32; a spine with teeth; and random, then random and
+ * deep. */
+enum shape { STAR, PATHS, BROOM, COMB, BUSH, DEEP, SHAPES };
+
+/* Writes the file of a tree of the shape, of n nodes with budget k, and returns its length. Values from all equal to the full
+ * range come in turn by the seed. */
+size_t shaped_tree(uint8_t *file, enum shape shape, int n, int k, uint64_t *seed);
+
+/* The same, with the shape by the seed too. */
 size_t random_tree(uint8_t *file, int n, int k, uint64_t *seed);
 
 /* Damages the file in one to three places, so that it breaks a rule or not, and returns its length. */

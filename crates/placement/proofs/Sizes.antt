@@ -5,7 +5,7 @@ use mathlib.Core.Bool.{cond}
 use mathlib.Core.List.{List}
 use native.Mathlib.Nat.{mul-le-mul, mul-le-mul-left, mul-sub}
 use native.Mathlib.Omega.{arith}
-use Rattle.laws.specs.Lists.{anyOf, has}
+use Rattle.laws.specs.Lists.{range, sum, anyOf, has, those}
 use Rattle.laws.proofs.Bools.{by-test}
 use Rattle.laws.proofs.Sums.{sum-le}
 use Rattle.laws.proofs.Ranges.{sum-those-le}
@@ -14,7 +14,7 @@ use Rattle.model.specs.Tree.{route, atOrBelow}
 use Rattle.model.specs.Bill.{thousandths, upTo, clientLoad, linkLoad}
 use Rattle.model.specs.Accepted.{Sound}
 use Rattle.model.specs.Children.{relieved, childOf}
-use Rattle.placement.specs.Walks.{mostSent, mostLoad, mostOfRow, Walked, NodeWalked, RowWalked}
+use Rattle.placement.specs.Walks.{mostSent, mostLoad, mostOfRow, RangeWalked, NodeWalked}
 
 module _ (t : Tree) (d : Demand) (ok : Sound t d) where
   -- a client's cachable flow is a part of its flow, and the rest is what it sends once served
@@ -39,12 +39,12 @@ module _ (t : Tree) (d : Demand) (ok : Sound t d) where
   link-load-bound k (suc v) =
       omega (arith, ok .few, sum-those-le (clientLoad t d k (suc v)) (atOrBelow t (suc v)) mostSent 0 (t .count) (client-load-bound k (suc v)))
 
-  pub relief-bound : {k loads loads′ : List ℕ} {i e relief : ℕ} → e ≤ t .count → Walked t d k loads i e relief loads′ → relief ≤ mostLoad
+  pub relief-bound : {k loads loads′ : List ℕ} {i e relief : ℕ} → e ≤ t .count → RangeWalked t d k loads i e relief loads′ → relief ≤ mostLoad
   relief-bound {i = i} {e = e} h w = omega (arith, ok .few, w .relieves, sum-le (relieved d) mostSent i (e - i) relieved-bound)
 
   pub node-load-bound : {k loads loads′ : List ℕ} {v e load relief : ℕ} → NodeWalked t d k loads v e load relief loads′ → load ≤ mostLoad
   node-load-bound {k} {v = v} w = omega (arith, w .loadAbove, link-load-bound k v)
 
-  pub row-load-bound : {k loads loads′ : List ℕ} {v i e load relief : ℕ} → RowWalked t d k loads v i e load relief loads′ → load ≤ mostOfRow
-  row-load-bound {k} {v = v} {i = i} {e = e} w =
-      omega (arith, ok .few, w .ends .inFile, w .loadsAbove, sum-those-le (linkLoad t d k) (childOf t v) mostLoad i (e - i) (link-load-bound k))
+  pub row-load-bound : (k : List ℕ) (v i e : ℕ) {load : ℕ} → e ≤ t .count
+      → load ≡ sum (linkLoad t d k) (those (childOf t v) (range i (e - i))) → load ≤ mostOfRow
+  row-load-bound k v i e h is = omega (arith, ok .few, sum-those-le (linkLoad t d k) (childOf t v) mostLoad i (e - i) (link-load-bound k))

@@ -10,9 +10,9 @@ use Rattle.laws.specs.Lists.{range, has}
 use Rattle.laws.proofs.Lists.{has-those, in-range}
 use Rattle.model.specs.File.{Tree, Demand, treeOf, demandOf}
 use Rattle.placement.specs.Passes.{selfServing, Walkable}
-use Rattle.placement.specs.Walks.{Begins, NodeWalked, RowWalked, Bounded, Raised}
-use Rattle.placement.proofs.Walks.{row-begins, row-at-end, row-stops, row-begins-again, row-goes-on, node-walked}
-use Rattle.placement.proofs.RowNodes.{relief-bound, node-load-bound, row-load-bound}
+use Rattle.placement.specs.Walks.{Begins, NodeWalked, RowWalked, RowUpTo, Bounded, Raised}
+use Rattle.placement.proofs.Walks.{walked-kept, row-begins, row-starts, row-at-end, row-stops, row-goes-on, node-walked}
+use Rattle.placement.proofs.Sizes.{relief-bound, node-load-bound, row-load-bound}
 
 -- a site is a member just if it serves itself
 pub self-serving-member : (n : ℕ) (servings : List ℕ) (v : ℕ) → 1 ≤ v → v < n → eqb (getD servings v 0) v ≡ has (selfServing n servings) v
@@ -32,7 +32,7 @@ module _ {file servings loads : List ℕ} {n : ℕ} (given : Walkable file n ser
   k = selfServing n servings
 
   -- with the loads that a walk has left
-  pub still-walkable : {loads′ : List ℕ} → length loads′ ≡ length loads → Walkable file n servings loads′
+  still-walkable : {loads′ : List ℕ} → length loads′ ≡ length loads → Walkable file n servings loads′
   still-walkable e = record { ofFile = given .ofFile; servingsLong = given .servingsLong; loadsLong = omega (arith, given .loadsLong) }
 
   -- ---- node v
@@ -41,8 +41,8 @@ module _ {file servings loads : List ℕ} {n : ℕ} (given : Walkable file n ser
   children-begin v h = row-begins t (given .ofFile .sound .preorder) v (omega (arith, given .ofFile .nodes))
 
   pub row-bounded : {loads₀ loads′ : List ℕ} {v i e load relief : ℕ} → RowWalked t d k loads₀ v i e load relief loads′ → Bounded load relief
-  row-bounded w = record {
-    loads = row-load-bound t d (given .ofFile .sound) w;
+  row-bounded {v = v} {i = i} {e = e} w = record {
+    loads = row-load-bound t d (given .ofFile .sound) k v i e (w .ends .inFile) (w .loadsAbove);
     relieves = relief-bound t d (given .ofFile .sound) (w .ends .inFile) (w .walked);
   }
 
@@ -54,34 +54,33 @@ module _ {file servings loads : List ℕ} {n : ℕ} (given : Walkable file n ser
       (node-walked t d k (given .ofFile .sound .preorder) z (omega (arith, given .ofFile .nodes)) w (eqb (getD servings v 0) v) _ _
       (self-serving-member n servings v z h) (r .relieves) (r .loadAbove))
 
-  -- ---- the row of v's children from node i on
+  -- ---- the row of v's children from node i on, when it has come to node e
 
-  pub row-over : (v i : ℕ) → i ≡ n → RowWalked t d k loads v i i 0 0 loads
-  row-over v i e = row-at-end t d k (given .ofFile .sound .preorder) loads v i (e ∙ given .ofFile .nodes)
+  pub row-opens : {v i : ℕ} → Begins t v i → RowUpTo t d k loads v i i 0 0 loads
+  row-opens b = row-starts t d k (given .ofFile .sound .preorder) loads b
 
-  module _ {v i : ℕ} (b : Begins t v i) (p : ℕ) (is-parent : p ≡ t .parent i) where
-    pub row-left : p < v → RowWalked t d k loads v i i 0 0 loads
-    row-left h = row-stops t d k (given .ofFile .sound .preorder) loads v i b (omega arith)
+  module _ {loads′ : List ℕ} {v i e load relief : ℕ} (w : RowUpTo t d k loads v i e load relief loads′) where
+    pub row-walkable : Walkable file n servings loads′
+    row-walkable = still-walkable (walked-kept t d k (w .walked))
 
-    module _ (more : i ≡ n → ⊥) (child : v ≤ p) where
-      in-tree : i < t .count
-      in-tree = omega (arith, b .inFile, given .ofFile .nodes, more)
+    -- the file ends
+    pub row-over : n ≤ e → RowWalked t d k loads v i e load relief loads′
+    row-over h = row-at-end t d k (given .ofFile .sound .preorder) w (omega (arith, given .ofFile .nodes))
 
-      is-child : v ≤ t .parent i
-      is-child = omega arith
+    -- node e is not below v
+    pub row-left : {p : ℕ} → p ≡ t .parent e → p < v → RowWalked t d k loads v i e load relief loads′
+    row-left is-parent h = row-stops t d k (given .ofFile .sound .preorder) w (omega arith)
 
-      module _ {e load relief : ℕ} {loads′ : List ℕ} (first : NodeWalked t d k loads i e load relief loads′) where
-        pub rest-begins : Begins t v e
-        rest-begins = row-begins-again t d k (given .ofFile .sound .preorder) b in-tree is-child first
+    -- it is a child of v, and is walked
+    module _ {loads″ : List ℕ} {e₂ load₂ relief₂ : ℕ} (next : NodeWalked t d k loads′ e e₂ load₂ relief₂ loads″) where
+      pub sums-fit : (load + load₂ < 2 ^ 64) × (relief + relief₂ < 2 ^ 64)
+      sums-fit =
+          let sound = given .ofFile .sound in (
+            omega (arith, row-load-bound t d sound k v i e (w .goesOn .inFile) (w .loadsAbove), node-load-bound t d sound next),
+            omega (arith, relief-bound t d sound (w .goesOn .inFile) (w .walked), relief-bound t d sound (next .ends .inFile) (next .walked)),
+          )
 
-        module _ {e₂ load₂ relief₂ : ℕ} {loads″ : List ℕ} (rest : RowWalked t d k loads′ v e e₂ load₂ relief₂ loads″) where
-          pub sums-fit : (load + load₂ < 2 ^ 64) × (relief + relief₂ < 2 ^ 64)
-          sums-fit =
-              let sound = given .ofFile .sound in (
-                omega (arith, node-load-bound t d sound first, row-load-bound t d sound rest),
-                omega (arith, relief-bound t d sound (first .ends .inFile) (first .walked), relief-bound t d sound (rest .ends .inFile) (rest .walked)),
-              )
-
-          pub row-joined : {end above whole : ℕ} → (end ≡ e₂) × (above ≡ load + load₂) × (whole ≡ relief + relief₂)
-              → RowWalked t d k loads v i end above whole loads″
-          row-joined is = rw (is .0, is .1, is .2) (row-goes-on t d k (given .ofFile .sound .preorder) b in-tree is-child first rest)
+      pub row-joined : {p end above whole : ℕ} → p ≡ t .parent e → v ≤ p → (end ≡ e₂) × (above ≡ load + load₂) × (whole ≡ relief + relief₂)
+          → RowUpTo t d k loads v i end above whole loads″
+      row-joined is-parent child is =
+          rw (is .0, is .1, is .2) (row-goes-on t d k (given .ofFile .sound .preorder) w (omega arith) next)

@@ -1,12 +1,12 @@
--- The laws of the two walks: where a row begins, ends and goes on with its next child, and a node after its row.
+-- The laws of the two walks: where a row begins, goes on with its next child and ends, and a node after its row.
 use mathlib.Core.Path.{_≡_, refl, sym, ap, _∙_}
-use mathlib.Core.Bool.{Bool, true, cond}
+use mathlib.Core.Bool.{Bool, true, false, cond}
 use mathlib.Core.List.{List, [], _∷_, map}
 use Prim.Native.Nat.{ℕ, suc, _+_, _*_, _-_, _≤_, _<_}
 use native.Mathlib.Decide.{decLt, ℕ-discrete}
 use native.Mathlib.Omega.{arith}
-use lib.ListN.{set}
-use lib.Seq.{sets}
+use lib.ListN.{length, set}
+use lib.Seq.{sets, length-sets}
 use borrow.Author.Tests.{eq-eqb, ne-eqb}
 use Rattle.laws.specs.Lists.{range, sum, has, those}
 use Rattle.laws.proofs.Bools.{by-test, not-both}
@@ -20,7 +20,7 @@ use Rattle.model.specs.Children.{relieved, childOf}
 use Rattle.model.proofs.Routes.{route-ends}
 use Rattle.model.proofs.Intervals.{below-self, before-not-below, below-after, below-parent, below-trans, end-parent, subtree-is-range}
 use Rattle.model.proofs.Children.{children-in-subtree, load-above-member, load-above-other}
-use Rattle.placement.specs.Walks.{Begins, Ends, Walked, NodeWalked, RowWalked}
+use Rattle.placement.specs.Walks.{Begins, Ends, RangeWalked, NodeWalked, RowWalked, RowUpTo}
 
 module _ (t : Tree) (pre : Preorder t) where
   -- ---- where walks begin and end
@@ -33,13 +33,8 @@ module _ (t : Tree) (pre : Preorder t) where
       record { after = omega arith; inFile = omega arith; hangs = λ _. rw next (pre v) }
 
   -- where the parent of node i comes before v, node i is not below v
-  stops-here : (v i : ℕ) → Begins t v i → t .parent i < v → Ends t v i i
-  stops-here v i b h = record {
-    from = omega arith;
-    inFile = b .inFile;
-    within = λ c a l. absurd (omega arith);
-    beyond = λ _. below-parent t pre v i (b .after) ∙ before-not-below t pre v (t .parent i) h;
-  }
+  not-below : (v i : ℕ) → Begins t v i → t .parent i < v → atOrBelow t v i ≡ false
+  not-below v i b h = below-parent t pre v i (b .after) ∙ before-not-below t pre v (t .parent i) h
 
   module _ (v i : ℕ) (b : Begins t v i) (h : i < t .count) (l : v ≤ t .parent i) where
     -- else it is a child of v
@@ -65,13 +60,12 @@ module _ (t : Tree) (pre : Preorder t) where
             hangs = λ g. let up = end-parent t pre i last (in-child last (omega arith) (omega arith)) (rw next (x .beyond g)) in rw (next, is-child) at up;
           }
 
-      ends-joined : (e₂ : ℕ) → Ends t v e e₂ → Ends t v i e₂
-      ends-joined e₂ y = record {
-        from = omega (arith, x .from, y .from);
-        inFile = y .inFile;
-        within = λ c a g. elim (decLt c e) [ yes q ↦ below-trans t pre v i c child-below (in-child c a q) | no q ↦ y .within c (omega arith) g ];
-        beyond = y .beyond;
-      }
+      -- the nodes up to the end of the child's walk are at or below v if those before the child are
+      within-again : (a : ℕ) → ((c : ℕ) → a ≤ c → c < i → atOrBelow t v c ≡ true) → (c : ℕ) → a ≤ c → c < e → atOrBelow t v c ≡ true
+      within-again a before c from g = elim (decLt c i) [
+        | yes q ↦ before c from q
+        | no q ↦ below-trans t pre v i c child-below (in-child c (omega arith) g)
+      ]
 
       -- of the nodes at or below a child of v, the child alone is one
       only-child : those (childOf t v) (range i (e - i)) ≡ i ∷ []
@@ -89,19 +83,23 @@ module _ (t : Tree) (pre : Preorder t) where
 -- ---- what walks write, one after the other
 
 module _ (t : Tree) (d : Demand) (k : List ℕ) where
-  walked-none : (loads : List ℕ) (i : ℕ) → Walked t d k loads i i 0 loads
+  walked-none : (loads : List ℕ) (i : ℕ) → RangeWalked t d k loads i i 0 loads
   unfolding sum
   walked-none loads i = record { relieves = rw (range-none i); writes = rw (range-none i) }
 
   walked-joined : {loads loads′ loads″ : List ℕ} {i e e₂ r r₂ : ℕ} → i ≤ e → e ≤ e₂
-      → Walked t d k loads i e r loads′ → Walked t d k loads′ e e₂ r₂ loads″ → Walked t d k loads i e₂ (r + r₂) loads″
+      → RangeWalked t d k loads i e r loads′ → RangeWalked t d k loads′ e e₂ r₂ loads″ → RangeWalked t d k loads i e₂ (r + r₂) loads″
   walked-joined {loads} {i = i} {e = e} {e₂ = e₂} p q w w₂ = record {
     relieves = rw (range-cut i e e₂ p q) (omega (arith, w .relieves, w₂ .relieves, sum-append (relieved d) (range i (e - i)) (range e (e₂ - e))));
     writes = w₂ .writes ∙ ap (λ l. sets l e (map (linkLoad t d k) (range e (e₂ - e)))) (w .writes) ∙ stores-join loads (linkLoad t d k) i e e₂ p q;
   }
 
-  walked-first : {loads loads′ : List ℕ} {v e r : ℕ} → v < e → Walked t d k loads (v + 1) e r loads′
-      → Walked t d k loads v e (relieved d v + r) (set loads′ v (linkLoad t d k v))
+  -- no entry comes or goes
+  pub walked-kept : {loads loads′ : List ℕ} {i e r : ℕ} → RangeWalked t d k loads i e r loads′ → length loads′ ≡ length loads
+  walked-kept w = ap length (w .writes) ∙ simp length-sets
+
+  walked-first : {loads loads′ : List ℕ} {v e r : ℕ} → v < e → RangeWalked t d k loads (v + 1) e r loads′
+      → RangeWalked t d k loads v e (relieved d v + r) (set loads′ v (linkLoad t d k v))
   unfolding sum
   walked-first {loads} {v = v} {e = e} h w = record {
     relieves = rw (range-first v e h) (omega (arith, w .relieves));
@@ -109,40 +107,50 @@ module _ (t : Tree) (d : Demand) (k : List ℕ) where
   }
 
   module _ (pre : Preorder t) where
-    -- ---- a row of v's children from node i on
+    -- ---- the row of v's children from node i on, when it has come to node e
 
-    row-none : (loads : List ℕ) (v i : ℕ) → Ends t v i i → RowWalked t d k loads v i i 0 0 loads
+    pub row-starts : (loads : List ℕ) {v i : ℕ} → Begins t v i → RowUpTo t d k loads v i i 0 0 loads
     unfolding sum those
-    row-none loads v i x = record { ends = x; loadsAbove = rw (range-none i); walked = walked-none loads i }
+    row-starts loads {i = i} b = record {
+      from = omega arith;
+      within = λ c a l. absurd (omega arith);
+      goesOn = b;
+      loadsAbove = rw (range-none i);
+      walked = walked-none loads i;
+    }
 
-    -- the file ends
-    pub row-at-end : (loads : List ℕ) (v i : ℕ) → i ≡ t .count → RowWalked t d k loads v i i 0 0 loads
-    row-at-end loads v i h =
-        row-none loads v i (record { from = omega arith; inFile = omega arith; within = λ c a l. absurd (omega arith); beyond = λ l. absurd (omega arith) })
+    module _ {loads loads′ : List ℕ} {v i e load relief : ℕ} (w : RowUpTo t d k loads v i e load relief loads′) where
+      row-done : (e < t .count → atOrBelow t v e ≡ false) → RowWalked t d k loads v i e load relief loads′
+      row-done beyond = record {
+        ends = record { from = w .from; inFile = w .goesOn .inFile; within = w .within; beyond = beyond };
+        loadsAbove = w .loadsAbove;
+        walked = w .walked;
+      }
 
-    -- the parent of node i comes before v
-    pub row-stops : (loads : List ℕ) (v i : ℕ) → Begins t v i → t .parent i < v → RowWalked t d k loads v i i 0 0 loads
-    row-stops loads v i b h = row-none loads v i (stops-here t pre v i b h)
+      -- the file ends
+      pub row-at-end : t .count ≤ e → RowWalked t d k loads v i e load relief loads′
+      row-at-end h = row-done (λ l. absurd (omega arith))
 
-    -- node i is a child of v, and is walked: the row begins again after it
-    pub row-begins-again : {loads loads′ : List ℕ} {v i e load relief : ℕ} → Begins t v i → i < t .count → v ≤ t .parent i
-        → NodeWalked t d k loads i e load relief loads′ → Begins t v e
-    row-begins-again b h l w = begins-again t pre _ _ b h l _ (w .ends)
+      -- the parent of node e comes before v
+      pub row-stops : t .parent e < v → RowWalked t d k loads v i e load relief loads′
+      row-stops h = row-done (λ _. not-below t pre v e (w .goesOn) h)
 
-    -- and with the walk of the rest the row is walked
-    pub row-goes-on : {loads loads′ loads″ : List ℕ} {v i e load relief e₂ load₂ relief₂ : ℕ} → Begins t v i → i < t .count → v ≤ t .parent i
-        → NodeWalked t d k loads i e load relief loads′ → RowWalked t d k loads′ v e e₂ load₂ relief₂ loads″
-        → RowWalked t d k loads v i e₂ (load + load₂) (relief + relief₂) loads″
-    unfolding sum
-    row-goes-on {v = v} {i = i} {e = e} {e₂ = e₂} b h l w w₂ =
-        let far : i ≤ e = omega (arith, w .ends .from) in
-        record {
-          ends = ends-joined t pre v i b h l e (w .ends) e₂ (w₂ .ends);
-          loadsAbove =
-              rw (range-cut i e e₂ far (w₂ .ends .from), those-append (childOf t v) (range i (e - i)) (range e (e₂ - e)), only-child t pre v i b h l e (w .ends))
-              (omega (arith, w .loadAbove, w₂ .loadsAbove));
-          walked = walked-joined far (w₂ .ends .from) (w .walked) (w₂ .walked);
-        }
+      -- node e is a child of v, and is walked: the row has come to the node after it
+      pub row-goes-on : {loads″ : List ℕ} {e₂ load₂ relief₂ : ℕ} → v ≤ t .parent e → NodeWalked t d k loads′ e e₂ load₂ relief₂ loads″
+          → RowUpTo t d k loads v i e₂ (load + load₂) (relief + relief₂) loads″
+      unfolding sum
+      row-goes-on {e₂ = e₂} l x =
+          let far : e ≤ e₂ = omega (arith, x .ends .from) in
+          let h : e < t .count = omega (arith, x .ends .from, x .ends .inFile) in
+          record {
+            from = omega (arith, w .from);
+            within = within-again t pre v e (w .goesOn) h l e₂ (x .ends) i (w .within);
+            goesOn = begins-again t pre v e (w .goesOn) h l e₂ (x .ends);
+            loadsAbove =
+                rw (range-cut i e e₂ (w .from) far, those-append (childOf t v) (range i (e - i)) (range e (e₂ - e)), only-child t pre v e (w .goesOn) h l e₂ (x .ends))
+                (omega (arith, w .loadsAbove, x .loadAbove, sum-append (linkLoad t d k) (those (childOf t v) (range i (e - i))) (e ∷ [])));
+            walked = walked-joined (w .from) far (w .walked) (x .walked);
+          }
 
     -- ---- a node after the row of its children
 

@@ -35,7 +35,7 @@ pub record Ends (t : Tree) (v i e : ℕ) : Type 0 where
 
 module _ (t : Tree) (d : Demand) (k loads : List ℕ) where
   -- the nodes from i to e − 1 were walked: what their clients send once served, and the load above each written at its number
-  pub record Walked (i e relief : ℕ) (loads′ : List ℕ) : Type 0 where
+  pub record RangeWalked (i e relief : ℕ) (loads′ : List ℕ) : Type 0 where
     pub relieves : relief ≡ sum (relieved d) (range i (e - i))
     pub writes : loads′ ≡ sets loads i (map (linkLoad t d k) (range i (e - i)))
 
@@ -43,13 +43,21 @@ module _ (t : Tree) (d : Demand) (k loads : List ℕ) where
   pub record NodeWalked (v e load relief : ℕ) (loads′ : List ℕ) : Type 0 where
     pub ends : Ends t v (v + 1) e
     pub loadAbove : load ≡ linkLoad t d k v
-    pub walked : Walked v e relief loads′
+    pub walked : RangeWalked v e relief loads′
 
   -- the row of v's children from node i on, and all below them, to e − 1
   pub record RowWalked (v i e load relief : ℕ) (loads′ : List ℕ) : Type 0 where
     pub ends : Ends t v i e
     pub loadsAbove : load ≡ sum (linkLoad t d k) (those (childOf t v) (range i (e - i)))
-    pub walked : Walked i e relief loads′
+    pub walked : RangeWalked i e relief loads′
+
+  -- the same row on the way, when it has come to node e
+  pub record RowUpTo (v i e load relief : ℕ) (loads′ : List ℕ) : Type 0 where
+    pub from : i ≤ e
+    pub within : (c : ℕ) → i ≤ c → c < e → atOrBelow t v c ≡ true
+    pub goesOn : Begins t v e
+    pub loadsAbove : load ≡ sum (linkLoad t d k) (those (childOf t v) (range i (e - i)))
+    pub walked : RangeWalked i e relief loads′
 
 -- what the row of a node's children can bring
 pub record Bounded (load relief : ℕ) : Type 0 where

@@ -141,20 +141,18 @@ fn row(file: &[u8], n: usize, servings: &[u16], loads: &mut [u64], v: usize, i: 
     requires { ⌜ Begins (treeOf (now file)) v i ⌝ }
     ensures { λ r. ⌜ RowWalked (treeOf (now (file .entry))) (demandOf (now (file .entry))) (selfServing n (now (servings .entry))) (now (loads .entry)) v i (r .end) (r .load .0) (r .relief .0) (now (loads .exit)) ⌝ }
 {
-    let none = Walk {
+    let mut walk = Walk {
         end: i,
         load: units::Flow::ZERO,
         relief: units::Flow::ZERO,
     };
-    if i == n {
-        return none;
+    while walk.end < n {
+        if fields::parent_of(file, walk.end) < v {
+            return walk;
+        }
+        walk = joined(walk, node(file, n, servings, loads, walk.end));
     }
-    if fields::parent_of(file, i) < v {
-        return none;
-    }
-    let first = node(file, n, servings, loads, i);
-    let rest = row(file, n, servings, loads, v, first.end);
-    joined(first, rest)
+    walk
 }
 
 // ---- the total

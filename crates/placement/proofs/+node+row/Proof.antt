@@ -5,7 +5,11 @@ use borrow.Author.Needs.{needs}
 use borrow.Fn.Kinds.{In}
 use borrow.Fn.PlainCycle.{Measures, is, falls, and}
 use Rattle.fields.proofs.parent_of.Reads as parent-of-reads
-use Rattle.placement.proofs.Turns.{still-walkable, children-begin, row-bounded, node-raised, row-over, row-left, rest-begins, sums-fit, row-joined}
+use Rattle.model.specs.File.{treeOf, demandOf}
+use Rattle.placement.specs.Passes.{selfServing}
+use Rattle.placement.specs.Walks.{RowUpTo}
+use Rattle.placement.proofs.Walks.{walked-kept}
+use Rattle.placement.proofs.Turns.{children-begin, row-bounded, node-raised, row-opens, row-walkable, row-over, row-left, sums-fit, row-joined}
 use Rattle.placement.proofs.+node+row.{statement}
 use Rattle.placement.proofs.+node+row.Tie.{close}
 use Rattle.placement.proofs.node.Reads as node
@@ -41,7 +45,7 @@ node-claims t = (row-below t, row.Post, raised-reads.Asked, raised-reads.Learnt)
 
 abbrev row-claims : ℕ → row-lts.Claims
 row-claims t =
-    (parent-of-reads.Asked, parent-of-reads.Learnt, node-below t, node.Post, row-below t, row.Post, joined-reads.Asked, joined-reads.Learnt)
+    (parent-of-reads.Asked, parent-of-reads.Learnt, node-below t, node.Post, joined-reads.Asked, joined-reads.Learnt)
 
 node-add-row : (t : ℕ) → node-lts.Need-add-row (node-claims t) (node-at t) node.Post
 node-add-row t c = search needs
@@ -62,8 +66,9 @@ node-cast-raised t c = omega (arith, c .shared-slice-known3 .given (c .before .b
 
 node-raised-requires : (t : ℕ) → node-lts.Need-raised-requires (node-claims t) (node-at t) node.Post
 node-raised-requires t c κs =
-    let start = c .before .before .before .before .before .before .before .before in
-    ((start .pre .1 .0 .ofFile, start .pre .1 .1 .1), row-bounded (start .pre .1 .0) (c .before .before .before .row .ensures))
+    let children = c .before .before .before in
+    let start = children .before .before .before .before .before in
+    ((start .pre .1 .0 .ofFile, start .pre .1 .1 .1), row-bounded (start .pre .1 .0) (children .row .ensures))
 
 node-mul-loads : (t : ℕ) → node-lts.Need-mul-loads (node-claims t) (node-at t) node.Post
 node-mul-loads t c = search needs
@@ -76,42 +81,76 @@ node-same-length t c = search needs
 
 node-returns : (t : ℕ) → node-lts.Need-returns (node-claims t) (node-at t) node.Post
 node-returns t c =
-    let start = c .before .before .before .before .before .before .before .before .before in
-    node-raised (start .pre .1 .0) (start .pre .1 .1 .0) (start .pre .1 .1 .1) (c .before .before .before .before .row .ensures) (c .raised .ensures .0) (c .raised .ensures .1)
+    let children = c .before .before .before .before in
+    let start = children .before .before .before .before .before in
+    node-raised (start .pre .1 .0) (start .pre .1 .1 .0) (start .pre .1 .1 .1) (children .row .ensures) (c .raised .ensures .0) (c .raised .ensures .1)
 
-row-returns : (t : ℕ) → row-lts.Need-returns (row-claims t) (row-at t) row.Post
-row-returns t c = row-over (c .before .before .before .before .pre .1 .0) _ _ (c .if1 .taken)
+abbrev row-Inv-loop : row-lts.InvT-loop
+row-Inv-loop file n servings loads₀ v i walk₀ loads walk =
+    RowUpTo (treeOf file) (demandOf file) (selfServing n servings) loads₀ v i (walk .end) (walk .load .0) (walk .relief .0) loads
 
-row-parent-of-requires : (t : ℕ) → row-lts.Need-parent-of-requires (row-claims t) (row-at t) row.Post
+abbrev row-μ-loop : row-lts.MeasureT-loop
+row-μ-loop file n servings loads₀ v i walk₀ loads walk = n - walk .end
+
+row-loop-holds : (t : ℕ) → row-lts.Need-loop-holds (row-claims t) (row-at t) row.Post row-Inv-loop row-μ-loop
+row-loop-holds t c =
+    let start = c .before .before .before in
+    row-opens (start .pre .1 .0) (start .pre .1 .1)
+
+row-parent-of-requires : (t : ℕ) → row-lts.Need-parent-of-requires (row-claims t) (row-at t) row.Post row-Inv-loop row-μ-loop
 row-parent-of-requires t c κs = search needs
 
-row-returns-2 : (t : ℕ) → row-lts.Need-returns-2 (row-claims t) (row-at t) row.Post
-row-returns-2 t c =
-    let start = c .before .before .before .before .before .before in
-    row-left (start .pre .1 .0) (start .pre .1 .1) _ (c .before .parent-of .ensures) (c .if2 .taken)
+row-same-length : (t : ℕ) → row-lts.Need-same-length (row-claims t) (row-at t) row.Post row-Inv-loop row-μ-loop
+row-same-length t c =
+    let turn = c .before .before .before .before in
+    walked-kept _ _ _ (turn .loop .inv .walked)
 
-row-node-requires : (t : ℕ) → row-lts.Need-node-requires (row-claims t) (row-at t) row.Post
+row-returns : (t : ℕ) → row-lts.Need-returns (row-claims t) (row-at t) row.Post row-Inv-loop row-μ-loop
+row-returns t c =
+    let parent = c .before in
+    let turn = parent .before .before .before in
+    let start = turn .before .before .before .before in
+    row-left (start .pre .1 .0) (turn .loop .inv) (parent .parent-of .ensures) (c .if2 .taken)
+
+row-node-requires : (t : ℕ) → row-lts.Need-node-requires (row-claims t) (row-at t) row.Post row-Inv-loop row-μ-loop
 row-node-requires t c κs =
-    let start = c .before .before .before .before .before .before .before in
-    (omega (arith, start .pre .0), (start .pre .1 .0, (omega (arith, start .pre .1 .1 .after), omega (arith, start .pre .1 .1 .inFile, start .pre .1 .0 .ofFile .nodes, c .before .before .before .if1 .left))))
+    let test = c .before .before .before in
+    let turn = test .before .before in
+    let start = turn .before .before .before .before in
+    let so-far = turn .loop .inv in
+    (omega (arith, start .pre .0, so-far .from, test .if1 .taken), (row-walkable (start .pre .1 .0) so-far, (omega (arith, so-far .goesOn .after), test .if1 .taken)))
 
-row-row-requires : (t : ℕ) → row-lts.Need-row-requires (row-claims t) (row-at t) row.Post
-row-row-requires t c κs =
-    let start = c .before .before .before .before .before .before .before .before .before .before .before in
-    (omega (arith, start .pre .0, c .before .before .before .node .ensures .ends .from), (still-walkable (start .pre .1 .0) (c .before .before .before .node .kept .1 .1 .1 .0), rest-begins (start .pre .1 .0) (start .pre .1 .1) _ (c .before .before .before .before .before .before .parent-of .ensures) (c .before .before .before .before .before .before .before .if1 .left) (c .before .before .before .before .before .if2 .left) (c .before .before .before .node .ensures)))
-
-row-joined-requires : (t : ℕ) → row-lts.Need-joined-requires (row-claims t) (row-at t) row.Post
+row-joined-requires : (t : ℕ) → row-lts.Need-joined-requires (row-claims t) (row-at t) row.Post row-Inv-loop row-μ-loop
 row-joined-requires t c κs =
-    let start = c .before .before .before .before .before .before .before .before .before .before .before .before .before .before in
-    sums-fit (start .pre .1 .0) (start .pre .1 .1) _ (c .before .before .before .before .before .before .before .before .before .parent-of .ensures) (c .before .before .before .before .before .before .before .before .before .before .if1 .left) (c .before .before .before .before .before .before .before .before .if2 .left) (c .before .before .before .before .before .before .node .ensures) (c .before .before .row .ensures)
+    let walked = c .before .before in
+    let turn = walked .before .before .before .before .before .before in
+    let start = turn .before .before .before .before in
+    sums-fit (start .pre .1 .0) (turn .loop .inv) (walked .node .ensures)
 
-row-same-length : (t : ℕ) → row-lts.Need-same-length (row-claims t) (row-at t) row.Post
-row-same-length t c = search needs
+row-loop-less : (t : ℕ) → row-lts.Need-loop-less (row-claims t) (row-at t) row.Post row-Inv-loop row-μ-loop
+row-loop-less t c =
+    let walked = c .before .before .before in
+    omega (arith, c .joined .ensures .0, walked .node .ensures .ends .from, walked .before .before .before .before .if1 .taken)
 
-row-returns-3 : (t : ℕ) → row-lts.Need-returns-3 (row-claims t) (row-at t) row.Post
-row-returns-3 t c =
-    let start = c .before .before .before .before .before .before .before .before .before .before .before .before .before .before .before in
-    row-joined (start .pre .1 .0) (start .pre .1 .1) _ (c .before .before .before .before .before .before .before .before .before .before .parent-of .ensures) (c .before .before .before .before .before .before .before .before .before .before .before .if1 .left) (c .before .before .before .before .before .before .before .before .before .if2 .left) (c .before .before .before .before .before .before .before .node .ensures) (c .before .before .before .row .ensures) (c .joined .ensures)
+row-loop-again : (t : ℕ) → row-lts.Need-loop-again (row-claims t) (row-at t) row.Post row-Inv-loop row-μ-loop
+row-loop-again t c =
+    let walked = c .before .before .before in
+    let child = walked .before .before in
+    let parent = child .before in
+    let turn = parent .before .before .before in
+    let start = turn .before .before .before .before in
+    row-joined (start .pre .1 .0) (turn .loop .inv) (walked .node .ensures) (parent .parent-of .ensures) (child .if2 .left) (c .joined .ensures)
+
+row-same-length-2 : (t : ℕ) → row-lts.Need-same-length-2 (row-claims t) (row-at t) row.Post row-Inv-loop row-μ-loop
+row-same-length-2 t c =
+    let turn = c .before .before in
+    walked-kept _ _ _ (turn .loop .inv .walked)
+
+row-returns-2 : (t : ℕ) → row-lts.Need-returns-2 (row-claims t) (row-at t) row.Post row-Inv-loop row-μ-loop
+row-returns-2 t c =
+    let turn = c .before .before in
+    let start = turn .before .before .before .before in
+    row-over (start .pre .1 .0) (turn .loop .inv) (c .if1 .left)
 
 pub +node+row-spec : {M : Type 1} → statement M
 +node+row-spec = close μ-node μ-row (λ t. node-lts.spec (node-claims t)
@@ -130,11 +169,15 @@ pub +node+row-spec : {M : Type 1} → statement M
     λ t. row-lts.spec (row-claims t)
     (row-at t)
     row.Post
-    (row-returns t)
+    row-Inv-loop
+    row-μ-loop
+    (row-loop-holds t)
     (row-parent-of-requires t)
-    (row-returns-2 t)
-    (row-node-requires t)
-    (row-row-requires t)
-    (row-joined-requires t)
     (row-same-length t)
-    (row-returns-3 t)
+    (row-returns t)
+    (row-node-requires t)
+    (row-joined-requires t)
+    (row-loop-less t)
+    (row-loop-again t)
+    (row-same-length-2 t)
+    (row-returns-2 t)
