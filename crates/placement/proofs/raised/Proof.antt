@@ -2,7 +2,7 @@
 use mathlib.Core.Path.{_∙_}
 use native.Mathlib.Omega.{arith}
 use borrow.Author.Needs.{needs}
-use Rattle.placement.proofs.RowNodes.{cachable-part, relieved-rest}
+use Rattle.placement.proofs.Sizes.{cachable-part, relieved-rest}
 use Rattle.placement.proofs.raised.Statement.{statement}
 use Rattle.placement.proofs.raised.Tie as tie
 
