@@ -1,4 +1,5 @@
 pub mod Cases
+pub mod Worked
 pub mod Verdicts
 pub mod Accepted
 pub mod Routes

@@ -9,3 +9,4 @@ pub mod Calls
 pub mod Report
 pub mod Hosts
 pub mod Cases
+pub mod Worked
