@@ -20,4 +20,6 @@ pub mod Written
 pub mod Reported
 pub mod Decimals
 pub mod Codes
+pub mod BillLaws
+pub mod CallLaws
 pub mod Laws
