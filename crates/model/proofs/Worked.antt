@@ -1,19 +1,49 @@
 -- The definitions agree with document 01's worked cases that it does not mark, on bytes written out.
-use mathlib.Core.Path.{refl}
-use mathlib.Core.List.{flatMap}
+use mathlib.Core.Path.{_≡_, refl}
+use mathlib.Core.List.{List, [], _∷_, flatMap}
+use Prim.Native.Nat.{ℕ}
 use Rattle.laws.specs.Lists.{range, sum, least, greatest, has, anyOf, those, howMany, firstThat, same}
-use Rattle.model.specs.File.{number, fieldOf}
+use Rattle.model.specs.File.{number, fieldOf, treeOf, demandOf}
 use Rattle.model.specs.Tree.{climb, route, atOrBelow, depth, height, distance}
-use Rattle.model.specs.Rules.{parentHolds, lengthHolds, recordVerdict, recordsVerdict, marked, fileVerdict, accepted, ascends, scratchWords}
+use Rattle.model.specs.Rules.{Verdict, parentHolds, lengthHolds, recordVerdict, recordsVerdict, marked, fileVerdict, accepted, ascends, scratchWords}
 use Rattle.model.specs.Bill.{price, cost, total, upTo, clientLoad, linkLoad, serving}
 use Rattle.model.specs.Ties.{smallerFirst, members, visits, tiesBefore, ranksBefore}
 use Rattle.model.specs.Plan.{setsOf, firstOf, plan}
 use Rattle.model.specs.Greedy.{withNode, withNodes, leastNode, stepOver, takenFrom}
-use Rattle.model.specs.Calls.{checkNumber, recordBytes, billVerdict, rankVerdict, ranking, planTotals, planRows, planVerdict, greedyTotals, greedyRow, greedyVerdict}
-use Rattle.model.specs.Report.{setOfRow, reportVerdict, digits, decimal, line, reportText, refusalText, programVerdict, programText}
-use Rattle.model.specs.Hosts.{wordsAsked, hostBillVerdict}
+use Rattle.model.specs.Calls.{after, ScratchAfter, checkNumber, recordBytes, billVerdict, servingNodes, linkLoads, rankVerdict, ranking, planTotals, planRows, planVerdict, PlanCall, greedyTotals, greedyRow, greedyVerdict, GreedyCall}
+use Rattle.model.specs.Report.{setOfRow, reportVerdict, ReportCall, digits, decimal, line, reportText, refusalText, programVerdict, programText}
+use Rattle.model.specs.Hosts.{wordsAsked, hostBillVerdict, HostBillCall}
 use Rattle.model.specs.Cases.{bytesOf, headerBytes, recordOf, treeA}
 use Rattle.model.specs.Worked.{fileA, largest, tooLong, Worked}
+
+-- ---- a call's answer and buffers by its rules alone
+
+host-bill-settled : {file set totals servings loads totals′ servings′ loads′ : List ℕ} {v : Verdict}
+    → HostBillCall file set totals servings loads v totals′ servings′ loads′
+    → let w = hostBillVerdict file set totals servings loads in
+    (v ≡ w) × (totals′ ≡ after w (total (treeOf file) (demandOf file) set ∷ []) totals)
+    × (servings′ ≡ after w (servingNodes file set) servings) × (loads′ ≡ after w (linkLoads file set) loads)
+host-bill-settled c = rw (← c .verdict) (refl, c .totalsAfter, c .servingsAfter, c .loadsAfter)
+
+module _ {file scratch totals scratch′ totals′ : List ℕ} {v : Verdict} where
+  plan-settled : {rows rows′ : List ℕ} → PlanCall file scratch totals rows v scratch′ totals′ rows′
+      → let w = planVerdict file scratch totals rows in
+      (v ≡ w) × ScratchAfter w file scratch scratch′ × (totals′ ≡ after w (planTotals file) totals) × (rows′ ≡ after w (planRows file) rows)
+  plan-settled c = rw (← c .verdict) (refl, c .scratchAfter, c .totalsAfter, c .rowsAfter)
+
+  greedy-settled : {taken taken′ : List ℕ} → GreedyCall file scratch totals taken v scratch′ totals′ taken′
+      → let w = greedyVerdict file scratch totals taken in
+      (v ≡ w) × ScratchAfter w file scratch scratch′ × (totals′ ≡ after w (greedyTotals file) totals) × (taken′ ≡ after w (greedyRow file) taken)
+  greedy-settled c = rw (← c .verdict) (refl, c .scratchAfter, c .totalsAfter, c .takenAfter)
+
+  report-settled : {rows greedys taken rows′ greedys′ taken′ : List ℕ}
+      → ReportCall file scratch totals rows greedys taken v scratch′ totals′ rows′ greedys′ taken′
+      → let w = reportVerdict file scratch totals rows greedys taken in
+      (v ≡ w) × ScratchAfter w file scratch scratch′ × (totals′ ≡ after w (planTotals file) totals) × (rows′ ≡ after w (planRows file) rows)
+      × (greedys′ ≡ after w (greedyTotals file) greedys) × (taken′ ≡ after w (greedyRow file) taken)
+  report-settled c = rw (← c .verdict) (refl, c .scratchAfter, c .totalsAfter, c .rowsAfter, c .greedysAfter, c .takenAfter)
+
+-- ---- the cases
 
 pub worked : Worked
 unfolding fileA largest tooLong bytesOf headerBytes recordOf treeA flatMap range sum least greatest has anyOf those howMany firstThat same number fieldOf climb route atOrBelow depth height distance parentHolds lengthHolds recordVerdict recordsVerdict marked fileVerdict accepted ascends scratchWords price cost total upTo clientLoad linkLoad serving smallerFirst members visits tiesBefore ranksBefore setsOf firstOf plan withNode withNodes leastNode stepOver takenFrom checkNumber recordBytes billVerdict rankVerdict ranking planTotals planRows planVerdict greedyTotals greedyRow greedyVerdict setOfRow reportVerdict digits decimal line reportText refusalText programVerdict programText wordsAsked hostBillVerdict
@@ -128,6 +158,15 @@ worked = record {
     hostLoadsShort = refl;
     hostSetFirst = refl;
     hostFileFirst = refl;
+  };
+  statements = record {
+    billSettled = λ c. (c .answers, c .servingsAfter, c .loadsAfter);
+    billRefused = λ c. (c .answers, c .servingsAfter, c .loadsAfter);
+    hostBillSettled = host-bill-settled;
+    planSettled = λ c. let s = plan-settled c in (s .0, s .1 .0, s .1 .1, s .2, s .3);
+    planRefused = plan-settled;
+    greedySettled = λ c. let s = greedy-settled c in (s .0, s .1 .0, s .1 .1, s .2, s .3);
+    reportSettled = λ c. let s = report-settled c in (s .0, s .1 .0, s .1 .1, s .2, s .3, s .4, s .5);
   };
   program = record {
     reportOfA = refl;

@@ -4,14 +4,14 @@ use mathlib.Core.Path.{_≡_}
 use mathlib.Core.Bool.{true, false}
 use mathlib.Core.List.{List, [], _∷_, _++_, flatMap}
 use Prim.Native.Nat.{ℕ}
-use lib.ListN.{take, drop, replicate}
+use lib.ListN.{length, take, drop, replicate}
 use Rattle.laws.specs.Lists.{range}
 use Rattle.model.specs.File.{treeOf, demandOf}
-use Rattle.model.specs.Rules.{passed, broken, fileVerdict, scratchWords}
+use Rattle.model.specs.Rules.{Verdict, passed, broken, fileVerdict, scratchWords}
 use Rattle.model.specs.Bill.{total}
-use Rattle.model.specs.Calls.{answered, refused, first, second, after, checkNumber, recordBytes, billVerdict, servingNodes, linkLoads, ranking, winner, planTotals, planRows, planVerdict, greedyTotals, greedyRow, greedyVerdict}
-use Rattle.model.specs.Report.{setOfRow, reportVerdict, isSmall, programVerdict, programText}
-use Rattle.model.specs.Hosts.{codeOf, wordsAsked, hostBillVerdict}
+use Rattle.model.specs.Calls.{Answer, answered, refused, after, checkNumber, recordBytes, billVerdict, servingNodes, linkLoads, BillCall, first, second, ranking, winner, planTotals, planRows, planVerdict, PlanCall, greedyTotals, greedyRow, greedyVerdict, GreedyCall}
+use Rattle.model.specs.Report.{setOfRow, reportVerdict, ReportCall, isSmall, programVerdict, programText}
+use Rattle.model.specs.Hosts.{codeOf, wordsAsked, hostBillVerdict, HostBillCall}
 use Rattle.model.specs.Cases.{treeA}
 
 -- ---- the files
@@ -197,6 +197,29 @@ pub record CallCases : Type 0 where
   pub hostSetFirst : hostBillVerdict fileA (5 ∷ []) [] [] [] ≡ broken 12 0
   pub hostFileFirst : hostBillVerdict tooLong (5 ∷ []) [] [] [] ≡ broken 9 1
 
+-- what a call that keeps its statement hands back for A, whatever it does: entries 7 stay; a refusal keeps all
+pub record StatementCases : Type 0 where
+  pub billSettled : {a : Answer ℕ} {servings′ loads′ : List ℕ}
+      → BillCall fileA (1 ∷ []) (replicate 6 7) (replicate 6 7) a servings′ loads′
+      → (a ≡ answered 60000) × (servings′ ≡ 0 ∷ 1 ∷ 1 ∷ 1 ∷ 0 ∷ 7 ∷ []) × (loads′ ≡ 0 ∷ 0 ∷ 20000 ∷ 20000 ∷ 5000 ∷ 7 ∷ [])
+  pub billRefused : {a : Answer ℕ} {servings loads servings′ loads′ : List ℕ} → BillCall tooLong [] servings loads a servings′ loads′
+      → (a ≡ refused 9 1) × (servings′ ≡ servings) × (loads′ ≡ loads)
+  pub hostBillSettled : {v : Verdict} {totals′ servings′ loads′ : List ℕ}
+      → HostBillCall fileA (1 ∷ []) (replicate 2 7) (replicate 6 7) (replicate 6 7) v totals′ servings′ loads′
+      → (v ≡ passed) × (totals′ ≡ 60000 ∷ 7 ∷ []) × (servings′ ≡ 0 ∷ 1 ∷ 1 ∷ 1 ∷ 0 ∷ 7 ∷ []) × (loads′ ≡ 0 ∷ 0 ∷ 20000 ∷ 20000 ∷ 5000 ∷ 7 ∷ [])
+  pub planSettled : {v : Verdict} {scratch′ totals′ rows′ : List ℕ}
+      → PlanCall fileA (replicate 66 7) (replicate 4 7) (replicate 7 7) v scratch′ totals′ rows′
+      → (v ≡ passed) × (length scratch′ ≡ 66) × (drop 65 scratch′ ≡ 7 ∷ []) × (totals′ ≡ 140000 ∷ 60000 ∷ 20000 ∷ 7 ∷ []) × (rows′ ≡ 0 ∷ 0 ∷ 1 ∷ 0 ∷ 2 ∷ 3 ∷ 7 ∷ [])
+  pub planRefused : {v : Verdict} {scratch totals rows scratch′ totals′ rows′ : List ℕ} → PlanCall tooLong scratch totals rows v scratch′ totals′ rows′
+      → (v ≡ broken 9 1) × (scratch′ ≡ scratch) × (totals′ ≡ totals) × (rows′ ≡ rows)
+  pub greedySettled : {v : Verdict} {scratch′ totals′ taken′ : List ℕ}
+      → GreedyCall fileA (replicate 66 7) (replicate 4 7) (replicate 3 7) v scratch′ totals′ taken′
+      → (v ≡ passed) × (length scratch′ ≡ 66) × (drop 65 scratch′ ≡ 7 ∷ []) × (totals′ ≡ 140000 ∷ 60000 ∷ 40000 ∷ 7 ∷ []) × (taken′ ≡ 1 ∷ 2 ∷ 7 ∷ [])
+  pub reportSettled : {v : Verdict} {scratch′ totals′ rows′ greedys′ taken′ : List ℕ}
+      → ReportCall fileA (replicate 66 7) (replicate 4 7) (replicate 7 7) (replicate 4 7) (replicate 3 7) v scratch′ totals′ rows′ greedys′ taken′
+      → (v ≡ passed) × (length scratch′ ≡ 66) × (drop 65 scratch′ ≡ 7 ∷ []) × (totals′ ≡ 140000 ∷ 60000 ∷ 20000 ∷ 7 ∷ []) × (rows′ ≡ 0 ∷ 0 ∷ 1 ∷ 0 ∷ 2 ∷ 3 ∷ 7 ∷ [])
+      × (greedys′ ≡ 140000 ∷ 60000 ∷ 40000 ∷ 7 ∷ []) × (taken′ ≡ 1 ∷ 2 ∷ 7 ∷ [])
+
 -- ---- the report program
 
 pub record ProgramCases : Type 0 where
@@ -224,4 +247,5 @@ pub record Worked : Type 0 where
   pub files : FileCases
   pub depths : DepthCases
   pub calls : CallCases
+  pub statements : StatementCases
   pub program : ProgramCases
