@@ -130,5 +130,5 @@ calls-lawful file =
       greedyFits = λ totals taken. both-fit totals taken (length-greedy-totals file) (length-greedy-row file);
       scratchStays = λ old new h. (h .0, same-from (scratchWords file) old new (h .1));
       scratchKept = λ q i old new h. h;
-      optimumOnly = only-optimum (treeOf file) (demandOf file);
+      demandSettles = λ totals rows greedys h b l. only-optimum (treeOf file) (demandOf file) b _ _ _ (h b l);
     }

@@ -49,6 +49,9 @@ pub worked : Worked
 unfolding fileA largest tooLong bytesOf headerBytes recordOf treeA flatMap range sum least greatest has anyOf those howMany firstThat same number fieldOf climb route atOrBelow depth height distance parentHolds lengthHolds recordVerdict recordsVerdict marked fileVerdict accepted ascends scratchWords price cost total upTo clientLoad linkLoad serving smallerFirst members visits tiesBefore ranksBefore setsOf firstOf plan withNode withNodes leastNode stepOver takenFrom checkNumber recordBytes billVerdict rankVerdict ranking planTotals planRows planVerdict greedyTotals greedyRow greedyVerdict setOfRow reportVerdict digits decimal line reportText refusalText programVerdict programText wordsAsked hostBillVerdict
 worked = record {
   files = record {
+    offsets = refl;
+    widths = refl;
+    mosts = refl;
     bytesOfA = refl;
     fileAPasses = refl;
     eightBytes = refl;

@@ -6,13 +6,13 @@ use mathlib.Core.List.{List, []}
 use mathlib.Core.Logic.{_↔_}
 use Prim.Native.Nat.{ℕ, _/_, _%_, _≤_}
 use lib.ListN.{length, getD}
-use Rattle.model.specs.File.{treeOf, demandOf}
+use Rattle.model.specs.File.{treeOf, demandOf, budgetOf}
 use Rattle.model.specs.Rules.{Verdict, passed, broken, scratchWords}
 use Rattle.model.specs.Ties.{ranksBefore}
 use Rattle.model.specs.Plan.{plan, planTotal}
 use Rattle.model.specs.Greedy.{greedyTotal}
 use Rattle.model.specs.Calls.{answered, refused, first, second, ScratchAfter, billBuffersLong, servingNodes, linkLoads, rankVerdict, ranking, winner, planTotals, planRows, planBuffersLong, planVerdict, greedyTotals, greedyRow, greedyBuffersLong, greedyVerdict}
-use Rattle.model.specs.Report.{HoldsOptimum, reportVerdict}
+use Rattle.model.specs.Report.{setOfRow, DemandThree, reportVerdict}
 use Rattle.model.specs.Hosts.{codeOf, hostBillVerdict}
 
 -- the ranking of K and L in a file, and its winner
@@ -53,8 +53,8 @@ pub record CallsLawful (file : List ℕ) : Type 0 where
   pub scratchStays : (old new : List ℕ) → ScratchAfter passed file old new
       → (length new ≡ length old) × ((i : ℕ) → scratchWords file ≤ i → getD new i 0 ≡ getD old i 0)
   pub scratchKept : (q i : ℕ) (old new : List ℕ) → ScratchAfter (broken q i) file old new → new ≡ old
-  -- demand 3 is met by one set and two totals only
-  pub optimumOnly : (b : ℕ) (held : List ℕ) (planHeld greedyHeld : ℕ) → HoldsOptimum (treeOf file) (demandOf file) b held planHeld greedyHeld
-      → (held ≡ plan (treeOf file) (demandOf file) b)
-      × (planHeld ≡ planTotal (treeOf file) (demandOf file) b)
-      × (greedyHeld ≡ greedyTotal (treeOf file) (demandOf file) b)
+  -- Demand 3 leaves no choice: at each budget one set and two totals meet it.
+  pub demandSettles : (totals rows greedys : List ℕ) → DemandThree file totals rows greedys → (b : ℕ) → b ≤ budgetOf file
+      → (setOfRow (budgetOf file) rows b ≡ plan (treeOf file) (demandOf file) b)
+      × (getD totals b 0 ≡ planTotal (treeOf file) (demandOf file) b)
+      × (getD greedys b 0 ≡ greedyTotal (treeOf file) (demandOf file) b)

@@ -2,11 +2,11 @@
 -- with the answer that the document gives.
 use mathlib.Core.Path.{_≡_}
 use mathlib.Core.Bool.{true, false}
-use mathlib.Core.List.{List, [], _∷_, _++_, flatMap}
+use mathlib.Core.List.{List, [], _∷_, _++_, map, flatMap}
 use Prim.Native.Nat.{ℕ}
 use lib.ListN.{length, take, drop, replicate}
 use Rattle.laws.specs.Lists.{range}
-use Rattle.model.specs.File.{treeOf, demandOf}
+use Rattle.model.specs.File.{fieldTable, treeOf, demandOf}
 use Rattle.model.specs.Rules.{Verdict, passed, broken, fileVerdict, scratchWords}
 use Rattle.model.specs.Bill.{total}
 use Rattle.model.specs.Calls.{Answer, answered, refused, after, checkNumber, recordBytes, billVerdict, servingNodes, linkLoads, BillCall, first, second, ranking, winner, planTotals, planRows, planVerdict, PlanCall, greedyTotals, greedyRow, greedyVerdict, GreedyCall}
@@ -61,6 +61,10 @@ tooLong = pair (node 0x00 0x00 0x03 0xE9 0x00 0x00 0x00 0x00 0x00 0x00)
 -- ---- questions 1 to 11
 
 pub record FileCases : Type 0 where
+  -- "one table gives each its offset, width and largest value": parent, length, flow, hit
+  pub offsets : map (λ f. f .offset) fieldTable ≡ 0 ∷ 2 ∷ 4 ∷ 8 ∷ []
+  pub widths : map (λ f. f .width) fieldTable ≡ 2 ∷ 2 ∷ 4 ∷ 2 ∷ []
+  pub mosts : map (λ f. f .most) fieldTable ≡ 1023 ∷ 1000 ∷ 100_000_000 ∷ 1000 ∷ []
   -- the bytes of tree A as the starred cases have them
   pub bytesOfA : treeA 20 1000 5 800 ≡ fileA
   pub fileAPasses : fileVerdict fileA ≡ passed
