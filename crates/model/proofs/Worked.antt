@@ -76,6 +76,9 @@ worked = record {
     ownParent = refl;
     parentHigh = refl;
     noAncestor = refl;
+    deepest = refl;
+    tooDeep = refl;
+    depthBeforeLength = refl;
     largestPass = refl;
     lengthOver = refl;
     flowOver = refl;
@@ -90,11 +93,6 @@ worked = record {
     serverClient = refl;
     serverFlow = refl;
     serverHit = refl;
-  };
-  depths = record {
-    deepest = refl;
-    tooDeep = refl;
-    depthBeforeLength = refl;
   };
   calls = record {
     largestTotal = refl;

@@ -20,7 +20,7 @@ ask q i true = passed
 ask q i false = broken q i
 
 infixr 10 _then_
--- the first no of two
+-- the first broken rule of two
 abbrev pub _then_ : Verdict → Verdict → Verdict
 _then_ passed rest = rest
 _then_ (broken q i) rest = broken q i

@@ -27,36 +27,36 @@ fileA =
     ++ (0x00 ∷ 0x00 ∷ 0x00 ∷ 0x04 ∷ 0x00 ∷ 0x00 ∷ 0x00 ∷ 0x05 ∷ 0x03 ∷ 0x20 ∷ [])
 
 -- the mark, version 1, then the two bytes of n and the two bytes of k
-abbrev pub header : ℕ → ℕ → ℕ → ℕ → List ℕ
+abbrev header : ℕ → ℕ → ℕ → ℕ → List ℕ
 header n n′ k k′ = 0x4B ∷ 0x54 ∷ 0x52 ∷ 0x00 ∷ 0x01 ∷ n ∷ n′ ∷ k ∷ k′ ∷ []
 
 -- the ten bytes of a record: parent, length, flow, hit
-abbrev pub node : ℕ → ℕ → ℕ → ℕ → ℕ → ℕ → ℕ → ℕ → ℕ → ℕ → List ℕ
-node p p′ l l′ f f′ f″ f‴ h h′ = p ∷ p′ ∷ l ∷ l′ ∷ f ∷ f′ ∷ f″ ∷ f‴ ∷ h ∷ h′ ∷ []
+abbrev tenBytes : ℕ → ℕ → ℕ → ℕ → ℕ → ℕ → ℕ → ℕ → ℕ → ℕ → List ℕ
+tenBytes p p′ l l′ f f′ f″ f‴ h h′ = p ∷ p′ ∷ l ∷ l′ ∷ f ∷ f′ ∷ f″ ∷ f‴ ∷ h ∷ h′ ∷ []
 
--- the record of the server where no client is there
-abbrev pub server : List ℕ
-server = replicate 10 0x00
+-- the record of node 0 where it has no client
+abbrev serverRecord : List ℕ
+serverRecord = replicate 10 0x00
 
--- n 1, k 1: the server alone
-abbrev pub alone : List ℕ → List ℕ
-alone r = header 0x00 0x01 0x00 0x01 ++ r
+-- n 1, k 1: the server, with the record r
+abbrev oneNode : List ℕ → List ℕ
+oneNode r = header 0x00 0x01 0x00 0x01 ++ r
 
--- n 2, k 1: the server and node 1
-abbrev pub pair : List ℕ → List ℕ
-pair r = header 0x00 0x02 0x00 0x01 ++ server ++ r
+-- n 2, k 1: the server, and node 1 with the record r
+abbrev twoNodes : List ℕ → List ℕ
+twoNodes r = header 0x00 0x02 0x00 0x01 ++ serverRecord ++ r
 
 -- the records of nodes 1 to m, each below the one before it
-abbrev pub chained : ℕ → List ℕ
-chained m = flatMap (λ i. node 0x00 i 0x00 0x00 0x00 0x00 0x00 0x00 0x00 0x00) (range 0 m)
+abbrev chained : ℕ → List ℕ
+chained m = flatMap (λ i. tenBytes 0x00 i 0x00 0x00 0x00 0x00 0x00 0x00 0x00 0x00) (range 0 m)
 
 -- length 1,000, flow 100,000,000, hit 1,000: the largest of each
 unfoldable pub largest : List ℕ
-largest = pair (node 0x00 0x00 0x03 0xE8 0x05 0xF5 0xE1 0x00 0x03 0xE8)
+largest = twoNodes (tenBytes 0x00 0x00 0x03 0xE8 0x05 0xF5 0xE1 0x00 0x03 0xE8)
 
 -- length 1,001
 unfoldable pub tooLong : List ℕ
-tooLong = pair (node 0x00 0x00 0x03 0xE9 0x00 0x00 0x00 0x00 0x00 0x00)
+tooLong = twoNodes (tenBytes 0x00 0x00 0x03 0xE9 0x00 0x00 0x00 0x00 0x00 0x00)
 
 -- ---- questions 1 to 11
 
@@ -94,34 +94,35 @@ pub record FileCases : Type 0 where
   pub fourFirst : fileVerdict (header 0x00 0x00 0x00 0x21) ≡ broken 4 0
   pub sixFirst : fileVerdict (tooLong ++ (0x00 ∷ [])) ≡ broken 6 0
   -- "Parent i at node i, i from 1 on: 7"; parent 256 at node 1; a parent that comes earlier, but is no ancestor of node i − 1
-  pub ownParent : fileVerdict (pair (node 0x00 0x01 0x00 0x00 0x00 0x00 0x00 0x00 0x00 0x00)) ≡ broken 7 1
-  pub parentHigh : fileVerdict (pair (node 0x01 0x00 0x00 0x00 0x00 0x00 0x00 0x00 0x00 0x00)) ≡ broken 7 1
-  pub noAncestor : fileVerdict (header 0x00 0x04 0x00 0x01 ++ replicate 30 0x00 ++ node 0x00 0x01 0x00 0x00 0x00 0x00 0x00 0x00 0x00 0x00) ≡ broken 7 3
+  pub ownParent : fileVerdict (twoNodes (tenBytes 0x00 0x01 0x00 0x00 0x00 0x00 0x00 0x00 0x00 0x00)) ≡ broken 7 1
+  pub parentHigh : fileVerdict (twoNodes (tenBytes 0x01 0x00 0x00 0x00 0x00 0x00 0x00 0x00 0x00 0x00)) ≡ broken 7 1
+  pub noAncestor : fileVerdict (header 0x00 0x04 0x00 0x01 ++ replicate 30 0x00
+      ++ tenBytes 0x00 0x01 0x00 0x00 0x00 0x00 0x00 0x00 0x00 0x00) ≡ broken 7 3
+  -- depth 32 passes; "Depth 33: 8", also where the length is bad
+  pub deepest : fileVerdict (header 0x00 0x21 0x00 0x01 ++ serverRecord ++ chained 32) ≡ passed
+  pub tooDeep : fileVerdict (header 0x00 0x22 0x00 0x01 ++ serverRecord ++ chained 33) ≡ broken 8 33
+  pub depthBeforeLength : fileVerdict (header 0x00 0x22 0x00 0x01 ++ serverRecord ++ chained 32
+      ++ tenBytes 0x00 0x20 0x03 0xE9 0x00 0x00 0x00 0x00 0x00 0x00) ≡ broken 8 33
   -- "Length 1,001: 9. Hit 1,001: 11", and flow 100,000,001: 10
   pub largestPass : fileVerdict largest ≡ passed
   pub lengthOver : fileVerdict tooLong ≡ broken 9 1
-  pub flowOver : fileVerdict (pair (node 0x00 0x00 0x03 0xE8 0x05 0xF5 0xE1 0x01 0x03 0xE8)) ≡ broken 10 1
-  pub hitOver : fileVerdict (pair (node 0x00 0x00 0x03 0xE8 0x05 0xF5 0xE1 0x00 0x03 0xE9)) ≡ broken 11 1
+  pub flowOver : fileVerdict (twoNodes (tenBytes 0x00 0x00 0x03 0xE8 0x05 0xF5 0xE1 0x01 0x03 0xE8)) ≡ broken 10 1
+  pub hitOver : fileVerdict (twoNodes (tenBytes 0x00 0x00 0x03 0xE8 0x05 0xF5 0xE1 0x00 0x03 0xE9)) ≡ broken 11 1
   -- "Bad length and bad hit in one record: 9", and the other questions of a record in their order
-  pub lengthBeforeHit : fileVerdict (pair (node 0x00 0x00 0x03 0xE9 0x00 0x00 0x00 0x00 0x03 0xE9)) ≡ broken 9 1
-  pub parentBeforeLength : fileVerdict (pair (node 0x00 0x01 0x03 0xE9 0x00 0x00 0x00 0x00 0x00 0x00)) ≡ broken 7 1
-  pub lengthBeforeFlow : fileVerdict (pair (node 0x00 0x00 0x03 0xE9 0x05 0xF5 0xE1 0x01 0x00 0x00)) ≡ broken 9 1
-  pub flowBeforeHit : fileVerdict (pair (node 0x00 0x00 0x00 0x00 0x05 0xF5 0xE1 0x01 0x03 0xE9)) ≡ broken 10 1
+  pub lengthBeforeHit : fileVerdict (twoNodes (tenBytes 0x00 0x00 0x03 0xE9 0x00 0x00 0x00 0x00 0x03 0xE9)) ≡ broken 9 1
+  pub parentBeforeLength : fileVerdict (twoNodes (tenBytes 0x00 0x01 0x03 0xE9 0x00 0x00 0x00 0x00 0x00 0x00)) ≡ broken 7 1
+  pub lengthBeforeFlow : fileVerdict (twoNodes (tenBytes 0x00 0x00 0x03 0xE9 0x05 0xF5 0xE1 0x01 0x00 0x00)) ≡ broken 9 1
+  pub flowBeforeHit : fileVerdict (twoNodes (tenBytes 0x00 0x00 0x00 0x00 0x05 0xF5 0xE1 0x01 0x03 0xE9)) ≡ broken 10 1
   -- "each through 7 to 11 before the next"
-  pub nodeByNode : fileVerdict (header 0x00 0x03 0x00 0x01 ++ server ++ node 0x00 0x00 0x00 0x00 0x00 0x00 0x00 0x00 0x03 0xE9 ++ node 0x00 0x02 0x00 0x00 0x00 0x00 0x00 0x00 0x00 0x00) ≡ broken 11 1
+  pub nodeByNode : fileVerdict (header 0x00 0x03 0x00 0x01 ++ serverRecord
+      ++ tenBytes 0x00 0x00 0x00 0x00 0x00 0x00 0x00 0x00 0x03 0xE9
+      ++ tenBytes 0x00 0x02 0x00 0x00 0x00 0x00 0x00 0x00 0x00 0x00) ≡ broken 11 1
   -- node 0: parent and length are 0, flow and hit as anywhere
-  pub serverParent : fileVerdict (alone (node 0x00 0x01 0x00 0x00 0x00 0x00 0x00 0x00 0x00 0x00)) ≡ broken 7 0
-  pub serverLength : fileVerdict (alone (node 0x00 0x00 0x00 0x01 0x00 0x00 0x00 0x00 0x00 0x00)) ≡ broken 9 0
-  pub serverClient : fileVerdict (alone (node 0x00 0x00 0x00 0x00 0x05 0xF5 0xE1 0x00 0x03 0xE8)) ≡ passed
-  pub serverFlow : fileVerdict (alone (node 0x00 0x00 0x00 0x00 0x05 0xF5 0xE1 0x01 0x00 0x00)) ≡ broken 10 0
-  pub serverHit : fileVerdict (alone (node 0x00 0x00 0x00 0x00 0x00 0x00 0x00 0x00 0x03 0xE9)) ≡ broken 11 0
-
--- the depth, and question 8 before 9
-pub record DepthCases : Type 0 where
-  -- depth 32 passes; "Depth 33: 8"
-  pub deepest : fileVerdict (header 0x00 0x21 0x00 0x01 ++ server ++ chained 32) ≡ passed
-  pub tooDeep : fileVerdict (header 0x00 0x22 0x00 0x01 ++ server ++ chained 33) ≡ broken 8 33
-  pub depthBeforeLength : fileVerdict (header 0x00 0x22 0x00 0x01 ++ server ++ chained 32 ++ node 0x00 0x20 0x03 0xE9 0x00 0x00 0x00 0x00 0x00 0x00) ≡ broken 8 33
+  pub serverParent : fileVerdict (oneNode (tenBytes 0x00 0x01 0x00 0x00 0x00 0x00 0x00 0x00 0x00 0x00)) ≡ broken 7 0
+  pub serverLength : fileVerdict (oneNode (tenBytes 0x00 0x00 0x00 0x01 0x00 0x00 0x00 0x00 0x00 0x00)) ≡ broken 9 0
+  pub serverClient : fileVerdict (oneNode (tenBytes 0x00 0x00 0x00 0x00 0x05 0xF5 0xE1 0x00 0x03 0xE8)) ≡ passed
+  pub serverFlow : fileVerdict (oneNode (tenBytes 0x00 0x00 0x00 0x00 0x05 0xF5 0xE1 0x01 0x00 0x00)) ≡ broken 10 0
+  pub serverHit : fileVerdict (oneNode (tenBytes 0x00 0x00 0x00 0x00 0x00 0x00 0x00 0x00 0x03 0xE9)) ≡ broken 11 0
 
 -- ---- the calls
 
@@ -171,7 +172,7 @@ pub record CallCases : Type 0 where
   pub setOfRowOne : setOfRow 2 (0 ∷ 0 ∷ 1 ∷ 0 ∷ 2 ∷ 3 ∷ []) 1 ≡ 1 ∷ []
   pub setOfRowTwo : setOfRow 2 (0 ∷ 0 ∷ 1 ∷ 0 ∷ 2 ∷ 3 ∷ []) 2 ≡ 2 ∷ 3 ∷ []
   -- "65 words pass, 64 give 13"; 9 nodes of height 8 with k 1: 9 × 9 × 2 + 4 × 9
-  pub scratchOfChain : scratchWords (header 0x00 0x09 0x00 0x01 ++ server ++ chained 8) ≡ 198
+  pub scratchOfChain : scratchWords (header 0x00 0x09 0x00 0x01 ++ serverRecord ++ chained 8) ≡ 198
   pub planPasses : planVerdict fileA (replicate 65 0) (replicate 3 0) (replicate 6 0) ≡ passed
   pub planScratchShort : planVerdict fileA (replicate 64 0) [] [] ≡ broken 13 0
   pub planTotalsShort : planVerdict fileA (replicate 65 0) (replicate 2 0) (replicate 6 0) ≡ broken 14 0
@@ -201,28 +202,45 @@ pub record CallCases : Type 0 where
   pub hostSetFirst : hostBillVerdict fileA (5 ∷ []) [] [] [] ≡ broken 12 0
   pub hostFileFirst : hostBillVerdict tooLong (5 ∷ []) [] [] [] ≡ broken 9 1
 
--- what a call that keeps its statement hands back for A, whatever it does: entries 7 stay; a refusal keeps all
+-- what a call that keeps its statement hands back, however it works: the 7s beyond what it writes stay, a refusal keeps all
 pub record StatementCases : Type 0 where
   pub billSettled : {a : Answer ℕ} {servings′ loads′ : List ℕ}
       → BillCall fileA (1 ∷ []) (replicate 6 7) (replicate 6 7) a servings′ loads′
-      → (a ≡ answered 60000) × (servings′ ≡ 0 ∷ 1 ∷ 1 ∷ 1 ∷ 0 ∷ 7 ∷ []) × (loads′ ≡ 0 ∷ 0 ∷ 20000 ∷ 20000 ∷ 5000 ∷ 7 ∷ [])
-  pub billRefused : {a : Answer ℕ} {servings loads servings′ loads′ : List ℕ} → BillCall tooLong [] servings loads a servings′ loads′
+      → (a ≡ answered 60000)
+      × (servings′ ≡ 0 ∷ 1 ∷ 1 ∷ 1 ∷ 0 ∷ 7 ∷ [])
+      × (loads′ ≡ 0 ∷ 0 ∷ 20000 ∷ 20000 ∷ 5000 ∷ 7 ∷ [])
+  pub billRefused : {a : Answer ℕ} {servings loads servings′ loads′ : List ℕ}
+      → BillCall tooLong [] servings loads a servings′ loads′
       → (a ≡ refused 9 1) × (servings′ ≡ servings) × (loads′ ≡ loads)
   pub hostBillSettled : {v : Verdict} {totals′ servings′ loads′ : List ℕ}
       → HostBillCall fileA (1 ∷ []) (replicate 2 7) (replicate 6 7) (replicate 6 7) v totals′ servings′ loads′
-      → (v ≡ passed) × (totals′ ≡ 60000 ∷ 7 ∷ []) × (servings′ ≡ 0 ∷ 1 ∷ 1 ∷ 1 ∷ 0 ∷ 7 ∷ []) × (loads′ ≡ 0 ∷ 0 ∷ 20000 ∷ 20000 ∷ 5000 ∷ 7 ∷ [])
+      → (v ≡ passed)
+      × (totals′ ≡ 60000 ∷ 7 ∷ [])
+      × (servings′ ≡ 0 ∷ 1 ∷ 1 ∷ 1 ∷ 0 ∷ 7 ∷ [])
+      × (loads′ ≡ 0 ∷ 0 ∷ 20000 ∷ 20000 ∷ 5000 ∷ 7 ∷ [])
   pub planSettled : {v : Verdict} {scratch′ totals′ rows′ : List ℕ}
       → PlanCall fileA (replicate 66 7) (replicate 4 7) (replicate 7 7) v scratch′ totals′ rows′
-      → (v ≡ passed) × (length scratch′ ≡ 66) × (drop 65 scratch′ ≡ 7 ∷ []) × (totals′ ≡ 140000 ∷ 60000 ∷ 20000 ∷ 7 ∷ []) × (rows′ ≡ 0 ∷ 0 ∷ 1 ∷ 0 ∷ 2 ∷ 3 ∷ 7 ∷ [])
-  pub planRefused : {v : Verdict} {scratch totals rows scratch′ totals′ rows′ : List ℕ} → PlanCall tooLong scratch totals rows v scratch′ totals′ rows′
+      → (v ≡ passed)
+      × (length scratch′ ≡ 66) × (drop 65 scratch′ ≡ 7 ∷ [])
+      × (totals′ ≡ 140000 ∷ 60000 ∷ 20000 ∷ 7 ∷ [])
+      × (rows′ ≡ 0 ∷ 0 ∷ 1 ∷ 0 ∷ 2 ∷ 3 ∷ 7 ∷ [])
+  pub planRefused : {v : Verdict} {scratch totals rows scratch′ totals′ rows′ : List ℕ}
+      → PlanCall tooLong scratch totals rows v scratch′ totals′ rows′
       → (v ≡ broken 9 1) × (scratch′ ≡ scratch) × (totals′ ≡ totals) × (rows′ ≡ rows)
   pub greedySettled : {v : Verdict} {scratch′ totals′ taken′ : List ℕ}
       → GreedyCall fileA (replicate 66 7) (replicate 4 7) (replicate 3 7) v scratch′ totals′ taken′
-      → (v ≡ passed) × (length scratch′ ≡ 66) × (drop 65 scratch′ ≡ 7 ∷ []) × (totals′ ≡ 140000 ∷ 60000 ∷ 40000 ∷ 7 ∷ []) × (taken′ ≡ 1 ∷ 2 ∷ 7 ∷ [])
+      → (v ≡ passed)
+      × (length scratch′ ≡ 66) × (drop 65 scratch′ ≡ 7 ∷ [])
+      × (totals′ ≡ 140000 ∷ 60000 ∷ 40000 ∷ 7 ∷ [])
+      × (taken′ ≡ 1 ∷ 2 ∷ 7 ∷ [])
   pub reportSettled : {v : Verdict} {scratch′ totals′ rows′ greedys′ taken′ : List ℕ}
       → ReportCall fileA (replicate 66 7) (replicate 4 7) (replicate 7 7) (replicate 4 7) (replicate 3 7) v scratch′ totals′ rows′ greedys′ taken′
-      → (v ≡ passed) × (length scratch′ ≡ 66) × (drop 65 scratch′ ≡ 7 ∷ []) × (totals′ ≡ 140000 ∷ 60000 ∷ 20000 ∷ 7 ∷ []) × (rows′ ≡ 0 ∷ 0 ∷ 1 ∷ 0 ∷ 2 ∷ 3 ∷ 7 ∷ [])
-      × (greedys′ ≡ 140000 ∷ 60000 ∷ 40000 ∷ 7 ∷ []) × (taken′ ≡ 1 ∷ 2 ∷ 7 ∷ [])
+      → (v ≡ passed)
+      × (length scratch′ ≡ 66) × (drop 65 scratch′ ≡ 7 ∷ [])
+      × (totals′ ≡ 140000 ∷ 60000 ∷ 20000 ∷ 7 ∷ [])
+      × (rows′ ≡ 0 ∷ 0 ∷ 1 ∷ 0 ∷ 2 ∷ 3 ∷ 7 ∷ [])
+      × (greedys′ ≡ 140000 ∷ 60000 ∷ 40000 ∷ 7 ∷ [])
+      × (taken′ ≡ 1 ∷ 2 ∷ 7 ∷ [])
 
 -- ---- the report program
 
@@ -237,19 +255,20 @@ pub record ProgramCases : Type 0 where
   -- "its first 650 input bytes; if all 650 exist it answers 15 before question 1"
   pub lookOver : programVerdict (replicate 650 0x00) ≡ broken 15 0
   pub lookWithin : programVerdict (replicate 649 0x00) ≡ broken 2 0
-  pub textOver : programText (fileA ++ replicate 600 0x00) ≡ 0x72 ∷ 0x65 ∷ 0x66 ∷ 0x75 ∷ 0x73 ∷ 0x65 ∷ 0x64 ∷ 0x20 ∷ 0x31 ∷ 0x35 ∷ 0x20 ∷ 0x30 ∷ 0x0A ∷ []
+  -- `refused 15 0`
+  pub textOver : programText (fileA ++ replicate 600 0x00)
+      ≡ 0x72 ∷ 0x65 ∷ 0x66 ∷ 0x75 ∷ 0x73 ∷ 0x65 ∷ 0x64 ∷ 0x20 ∷ 0x31 ∷ 0x35 ∷ 0x20 ∷ 0x30 ∷ 0x0A ∷ []
   -- "n at most 64, h at most 8 and k at most 8", asked "right after 11"
   pub nodesWithin : isSmall (header 0x00 0x40 0x00 0x08) ≡ true
   pub nodesBeyond : isSmall (header 0x00 0x41 0x00 0x08) ≡ false
-  pub heightWithin : programVerdict (header 0x00 0x09 0x00 0x08 ++ server ++ chained 8) ≡ passed
-  pub heightBeyond : programVerdict (header 0x00 0x0A 0x00 0x08 ++ server ++ chained 9) ≡ broken 15 0
-  pub budgetBeyond : programVerdict (header 0x00 0x01 0x00 0x09 ++ server) ≡ broken 15 0
-  pub elevenFirst : programVerdict (header 0x00 0x01 0x00 0x09 ++ node 0x00 0x00 0x00 0x00 0x00 0x00 0x00 0x00 0x03 0xE9) ≡ broken 11 0
+  pub heightWithin : programVerdict (header 0x00 0x09 0x00 0x08 ++ serverRecord ++ chained 8) ≡ passed
+  pub heightBeyond : programVerdict (header 0x00 0x0A 0x00 0x08 ++ serverRecord ++ chained 9) ≡ broken 15 0
+  pub budgetBeyond : programVerdict (header 0x00 0x01 0x00 0x09 ++ serverRecord) ≡ broken 15 0
+  pub elevenFirst : programVerdict (header 0x00 0x01 0x00 0x09 ++ tenBytes 0x00 0x00 0x00 0x00 0x00 0x00 0x00 0x00 0x03 0xE9) ≡ broken 11 0
 
 -- all of them
 pub record Worked : Type 0 where
   pub files : FileCases
-  pub depths : DepthCases
   pub calls : CallCases
   pub statements : StatementCases
   pub program : ProgramCases
