@@ -1,4 +1,5 @@
 pub mod Cases
+pub mod Worked
 pub mod Verdicts
 pub mod Accepted
 pub mod Routes
@@ -19,4 +20,6 @@ pub mod Written
 pub mod Reported
 pub mod Decimals
 pub mod Codes
+pub mod BillLaws
+pub mod CallLaws
 pub mod Laws

@@ -2,14 +2,17 @@ pub mod File
 pub mod Tree
 pub mod Rules
 pub mod Bill
+pub mod BillLaws
 pub mod Ties
 pub mod Plan
 pub mod Greedy
 pub mod Calls
 pub mod Report
 pub mod Hosts
+pub mod CallLaws
 pub mod Cases
 pub mod Preorder
 pub mod Accepted
 pub mod Children
 pub mod Laws
+pub mod Worked

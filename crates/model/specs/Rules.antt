@@ -9,7 +9,7 @@ use Rattle.laws.specs.Lists.{has, same}
 use Rattle.model.specs.File.{Tree, Demand, treeOf, demandOf, mostNodes, mostBudget, mostDepth, mark, version, headerLength, versionOf, countOf, budgetOf, recordAt, lengthField, flowField, hitField}
 use Rattle.model.specs.Tree.{route, depth, height}
 
--- every question so far has its yes, or the first no: its number and its record
+-- no rule broken so far, or the first broken one: its number and its record
 pub data Verdict : Type 0 where
   passed : Verdict
   broken : ℕ → ℕ → Verdict
@@ -20,7 +20,7 @@ ask q i true = passed
 ask q i false = broken q i
 
 infixr 10 _then_
--- the first no of two
+-- the first broken rule of two
 abbrev pub _then_ : Verdict → Verdict → Verdict
 _then_ passed rest = rest
 _then_ (broken q i) rest = broken q i

@@ -1,0 +1,185 @@
+-- The definitions agree with document 01's worked cases that it does not mark, on bytes written out.
+use mathlib.Core.Path.{_≡_, refl}
+use mathlib.Core.List.{List, [], _∷_, flatMap}
+use Prim.Native.Nat.{ℕ}
+use Rattle.laws.specs.Lists.{range, sum, least, greatest, has, anyOf, those, howMany, firstThat, same}
+use Rattle.model.specs.File.{number, fieldOf, treeOf, demandOf}
+use Rattle.model.specs.Tree.{climb, route, atOrBelow, depth, height, distance}
+use Rattle.model.specs.Rules.{Verdict, parentHolds, lengthHolds, recordVerdict, recordsVerdict, marked, fileVerdict, accepted, ascends, scratchWords}
+use Rattle.model.specs.Bill.{price, cost, total, upTo, clientLoad, linkLoad, serving}
+use Rattle.model.specs.Ties.{smallerFirst, members, visits, tiesBefore, ranksBefore}
+use Rattle.model.specs.Plan.{setsOf, firstOf, plan}
+use Rattle.model.specs.Greedy.{withNode, withNodes, leastNode, stepOver, takenFrom}
+use Rattle.model.specs.Calls.{after, ScratchAfter, checkNumber, recordBytes, billVerdict, servingNodes, linkLoads, rankVerdict, ranking, planTotals, planRows, planVerdict, PlanCall, greedyTotals, greedyRow, greedyVerdict, GreedyCall}
+use Rattle.model.specs.Report.{setOfRow, reportVerdict, ReportCall, digits, decimal, line, reportText, refusalText, programVerdict, programText}
+use Rattle.model.specs.Hosts.{wordsAsked, hostBillVerdict, HostBillCall}
+use Rattle.model.specs.Cases.{bytesOf, headerBytes, recordOf, treeA}
+use Rattle.model.specs.Worked.{fileA, largest, tooLong, Worked}
+
+-- ---- a call's answer and buffers by its rules alone
+
+host-bill-settled : {file set totals servings loads totals′ servings′ loads′ : List ℕ} {v : Verdict}
+    → HostBillCall file set totals servings loads v totals′ servings′ loads′
+    → let w = hostBillVerdict file set totals servings loads in
+    (v ≡ w) × (totals′ ≡ after w (total (treeOf file) (demandOf file) set ∷ []) totals)
+    × (servings′ ≡ after w (servingNodes file set) servings) × (loads′ ≡ after w (linkLoads file set) loads)
+host-bill-settled c = rw (← c .verdict) (refl, c .totalsAfter, c .servingsAfter, c .loadsAfter)
+
+module _ {file scratch totals scratch′ totals′ : List ℕ} {v : Verdict} where
+  plan-settled : {rows rows′ : List ℕ} → PlanCall file scratch totals rows v scratch′ totals′ rows′
+      → let w = planVerdict file scratch totals rows in
+      (v ≡ w) × ScratchAfter w file scratch scratch′ × (totals′ ≡ after w (planTotals file) totals) × (rows′ ≡ after w (planRows file) rows)
+  plan-settled c = rw (← c .verdict) (refl, c .scratchAfter, c .totalsAfter, c .rowsAfter)
+
+  greedy-settled : {taken taken′ : List ℕ} → GreedyCall file scratch totals taken v scratch′ totals′ taken′
+      → let w = greedyVerdict file scratch totals taken in
+      (v ≡ w) × ScratchAfter w file scratch scratch′ × (totals′ ≡ after w (greedyTotals file) totals) × (taken′ ≡ after w (greedyRow file) taken)
+  greedy-settled c = rw (← c .verdict) (refl, c .scratchAfter, c .totalsAfter, c .takenAfter)
+
+  report-settled : {rows greedys taken rows′ greedys′ taken′ : List ℕ}
+      → ReportCall file scratch totals rows greedys taken v scratch′ totals′ rows′ greedys′ taken′
+      → let w = reportVerdict file scratch totals rows greedys taken in
+      (v ≡ w) × ScratchAfter w file scratch scratch′ × (totals′ ≡ after w (planTotals file) totals) × (rows′ ≡ after w (planRows file) rows)
+      × (greedys′ ≡ after w (greedyTotals file) greedys) × (taken′ ≡ after w (greedyRow file) taken)
+  report-settled c = rw (← c .verdict) (refl, c .scratchAfter, c .totalsAfter, c .rowsAfter, c .greedysAfter, c .takenAfter)
+
+-- ---- the cases
+
+pub worked : Worked
+unfolding fileA largest tooLong bytesOf headerBytes recordOf treeA flatMap range sum least greatest has anyOf those howMany firstThat same number fieldOf climb route atOrBelow depth height distance parentHolds lengthHolds recordVerdict recordsVerdict marked fileVerdict accepted ascends scratchWords price cost total upTo clientLoad linkLoad serving smallerFirst members visits tiesBefore ranksBefore setsOf firstOf plan withNode withNodes leastNode stepOver takenFrom checkNumber recordBytes billVerdict rankVerdict ranking planTotals planRows planVerdict greedyTotals greedyRow greedyVerdict setOfRow reportVerdict digits decimal line reportText refusalText programVerdict programText wordsAsked hostBillVerdict
+worked = record {
+  files = record {
+    offsets = refl;
+    widths = refl;
+    mosts = refl;
+    bytesOfA = refl;
+    fileAPasses = refl;
+    eightBytes = refl;
+    nineBytes = refl;
+    markFirst = refl;
+    markSecond = refl;
+    markThird = refl;
+    versionTwo = refl;
+    versionHigh = refl;
+    noNodes = refl;
+    mostNodesAndBudget = refl;
+    nodesOver = refl;
+    budgetOver = refl;
+    budgetHigh = refl;
+    byteOver = refl;
+    byteUnder = refl;
+    oneFirst = refl;
+    twoFirst = refl;
+    threeFirst = refl;
+    fourFirst = refl;
+    sixFirst = refl;
+    ownParent = refl;
+    parentHigh = refl;
+    noAncestor = refl;
+    deepest = refl;
+    tooDeep = refl;
+    depthBeforeLength = refl;
+    largestPass = refl;
+    lengthOver = refl;
+    flowOver = refl;
+    hitOver = refl;
+    lengthBeforeHit = refl;
+    parentBeforeLength = refl;
+    lengthBeforeFlow = refl;
+    flowBeforeHit = refl;
+    nodeByNode = refl;
+    serverParent = refl;
+    serverLength = refl;
+    serverClient = refl;
+    serverFlow = refl;
+    serverHit = refl;
+  };
+  calls = record {
+    largestTotal = refl;
+    largestSaved = refl;
+    setPasses = refl;
+    setOver = refl;
+    setOfServer = refl;
+    setTwice = refl;
+    setDescends = refl;
+    servingsShort = refl;
+    loadsShort = refl;
+    setBeforeBuffers = refl;
+    fileBeforeSet = refl;
+    servingsOfOne = refl;
+    servingsOfTwo = refl;
+    loadsOfTwo = refl;
+    entriesStay = refl;
+    refusalKeeps = refl;
+    lessIsFirst = refl;
+    lessIsSecond = refl;
+    tieIsFirst = refl;
+    tieIsSecond = refl;
+    equalIsFirst = refl;
+    firstSetOver = refl;
+    secondSetOver = refl;
+    rankedFileRefused = refl;
+    winnerIsFirst = refl;
+    winnerIsSecond = refl;
+    noWinner = refl;
+    lastRecord = refl;
+    recordPast = refl;
+    recordRefused = refl;
+    totalsOfPlan = refl;
+    rowsOfPlan = refl;
+    totalsOfGreedy = refl;
+    rowOfGreedy = refl;
+    setOfRowOne = refl;
+    setOfRowTwo = refl;
+    scratchOfChain = refl;
+    planPasses = refl;
+    planScratchShort = refl;
+    planTotalsShort = refl;
+    planRowsShort = refl;
+    planFileFirst = refl;
+    greedyPasses = refl;
+    greedyScratchShort = refl;
+    greedyTotalsShort = refl;
+    greedyTakenShort
+        = refl;
+    greedyFileFirst = refl;
+    reportPasses = refl;
+    reportScratchShort = refl;
+    reportPlanShort = refl;
+    reportGreedyShort = refl;
+    reportFileFirst = refl;
+    hostHearsNone = refl;
+    hostHears = refl;
+    codeOfNone = refl;
+    codeOfNine = refl;
+    wordsOfA = refl;
+    wordsOfRefused = refl;
+    hostBillPasses = refl;
+    hostTotalShort = refl;
+    hostLoadsShort = refl;
+    hostSetFirst = refl;
+    hostFileFirst = refl;
+  };
+  statements = record {
+    billSettled = λ c. (c .answers, c .servingsAfter, c .loadsAfter);
+    billRefused = λ c. (c .answers, c .servingsAfter, c .loadsAfter);
+    hostBillSettled = host-bill-settled;
+    planSettled = λ c. let s = plan-settled c in (s .0, s .1 .0, s .1 .1, s .2, s .3);
+    planRefused = plan-settled;
+    greedySettled = λ c. let s = greedy-settled c in (s .0, s .1 .0, s .1 .1, s .2, s .3);
+    reportSettled = λ c. let s = report-settled c in (s .0, s .1 .0, s .1 .1, s .2, s .3, s .4, s .5);
+  };
+  program = record {
+    reportOfA = refl;
+    refusalOfLength = refl;
+    lookOver = refl;
+    lookWithin = refl;
+    textOver = refl;
+    nodesWithin = refl;
+    nodesBeyond = refl;
+    heightWithin = refl;
+    heightBeyond = refl;
+    budgetBeyond = refl;
+    elevenFirst = refl;
+  };
+}

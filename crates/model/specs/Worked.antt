@@ -1,0 +1,274 @@
+-- Document 01's worked cases that it does not mark *, and its numbers from elsewhere: each on a file written out byte by byte,
+-- with the answer that the document gives.
+use mathlib.Core.Path.{_≡_}
+use mathlib.Core.Bool.{true, false}
+use mathlib.Core.List.{List, [], _∷_, _++_, map, flatMap}
+use Prim.Native.Nat.{ℕ}
+use lib.ListN.{length, take, drop, replicate}
+use Rattle.laws.specs.Lists.{range}
+use Rattle.model.specs.File.{fieldTable, treeOf, demandOf}
+use Rattle.model.specs.Rules.{Verdict, passed, broken, fileVerdict, scratchWords}
+use Rattle.model.specs.Bill.{total}
+use Rattle.model.specs.Calls.{Answer, answered, refused, after, checkNumber, recordBytes, billVerdict, servingNodes, linkLoads, BillCall, first, second, ranking, winner, planTotals, planRows, planVerdict, PlanCall, greedyTotals, greedyRow, greedyVerdict, GreedyCall}
+use Rattle.model.specs.Report.{setOfRow, reportVerdict, ReportCall, isSmall, programVerdict, programText}
+use Rattle.model.specs.Hosts.{codeOf, wordsAsked, hostBillVerdict, HostBillCall}
+use Rattle.model.specs.Cases.{treeA}
+
+-- ---- the files
+
+-- tree A, 59 bytes: the header, then the records of nodes 0 to 4, each parent, length, flow, hit
+unfoldable pub fileA : List ℕ
+fileA =
+    (0x4B ∷ 0x54 ∷ 0x52 ∷ 0x00 ∷ 0x01 ∷ 0x00 ∷ 0x05 ∷ 0x00 ∷ 0x02 ∷ [])
+    ++ (0x00 ∷ 0x00 ∷ 0x00 ∷ 0x00 ∷ 0x00 ∷ 0x00 ∷ 0x00 ∷ 0x00 ∷ 0x00 ∷ 0x00 ∷ [])
+    ++ (0x00 ∷ 0x00 ∷ 0x00 ∷ 0x02 ∷ 0x00 ∷ 0x00 ∷ 0x00 ∷ 0x00 ∷ 0x00 ∷ 0x00 ∷ [])
+    ++ (0x00 ∷ 0x01 ∷ 0x00 ∷ 0x01 ∷ 0x00 ∷ 0x00 ∷ 0x00 ∷ 0x14 ∷ 0x03 ∷ 0xE8 ∷ [])
+    ++ (0x00 ∷ 0x01 ∷ 0x00 ∷ 0x01 ∷ 0x00 ∷ 0x00 ∷ 0x00 ∷ 0x14 ∷ 0x03 ∷ 0xE8 ∷ [])
+    ++ (0x00 ∷ 0x00 ∷ 0x00 ∷ 0x04 ∷ 0x00 ∷ 0x00 ∷ 0x00 ∷ 0x05 ∷ 0x03 ∷ 0x20 ∷ [])
+
+-- the mark, version 1, then the two bytes of n and the two bytes of k
+abbrev header : ℕ → ℕ → ℕ → ℕ → List ℕ
+header n n′ k k′ = 0x4B ∷ 0x54 ∷ 0x52 ∷ 0x00 ∷ 0x01 ∷ n ∷ n′ ∷ k ∷ k′ ∷ []
+
+-- the ten bytes of a record: parent, length, flow, hit
+abbrev tenBytes : ℕ → ℕ → ℕ → ℕ → ℕ → ℕ → ℕ → ℕ → ℕ → ℕ → List ℕ
+tenBytes p p′ l l′ f f′ f″ f‴ h h′ = p ∷ p′ ∷ l ∷ l′ ∷ f ∷ f′ ∷ f″ ∷ f‴ ∷ h ∷ h′ ∷ []
+
+-- the record of node 0 where it has no client
+abbrev serverRecord : List ℕ
+serverRecord = replicate 10 0x00
+
+-- n 1, k 1: the server, with the record r
+abbrev oneNode : List ℕ → List ℕ
+oneNode r = header 0x00 0x01 0x00 0x01 ++ r
+
+-- n 2, k 1: the server, and node 1 with the record r
+abbrev twoNodes : List ℕ → List ℕ
+twoNodes r = header 0x00 0x02 0x00 0x01 ++ serverRecord ++ r
+
+-- the records of nodes 1 to m, each below the one before it
+abbrev chained : ℕ → List ℕ
+chained m = flatMap (λ i. tenBytes 0x00 i 0x00 0x00 0x00 0x00 0x00 0x00 0x00 0x00) (range 0 m)
+
+-- length 1,000, flow 100,000,000, hit 1,000: the largest of each
+unfoldable pub largest : List ℕ
+largest = twoNodes (tenBytes 0x00 0x00 0x03 0xE8 0x05 0xF5 0xE1 0x00 0x03 0xE8)
+
+-- length 1,001
+unfoldable pub tooLong : List ℕ
+tooLong = twoNodes (tenBytes 0x00 0x00 0x03 0xE9 0x00 0x00 0x00 0x00 0x00 0x00)
+
+-- ---- questions 1 to 11
+
+pub record FileCases : Type 0 where
+  -- "one table gives each its offset, width and largest value": parent, length, flow, hit
+  pub offsets : map (λ f. f .offset) fieldTable ≡ 0 ∷ 2 ∷ 4 ∷ 8 ∷ []
+  pub widths : map (λ f. f .width) fieldTable ≡ 2 ∷ 2 ∷ 4 ∷ 2 ∷ []
+  pub mosts : map (λ f. f .most) fieldTable ≡ 1023 ∷ 1000 ∷ 100_000_000 ∷ 1000 ∷ []
+  -- the bytes of tree A as the starred cases have them
+  pub bytesOfA : treeA 20 1000 5 800 ≡ fileA
+  pub fileAPasses : fileVerdict fileA ≡ passed
+  -- "8 bytes: 1"
+  pub eightBytes : fileVerdict (take 8 fileA) ≡ broken 1 0
+  pub nineBytes : fileVerdict (take 9 fileA) ≡ broken 6 0
+  -- the mark is 4B 54 52
+  pub markFirst : fileVerdict (0x4A ∷ drop 1 fileA) ≡ broken 2 0
+  pub markSecond : fileVerdict (0x4B ∷ 0x53 ∷ drop 2 fileA) ≡ broken 2 0
+  pub markThird : fileVerdict (0x4B ∷ 0x54 ∷ 0x51 ∷ drop 3 fileA) ≡ broken 2 0
+  -- versions 2 and 257
+  pub versionTwo : fileVerdict (0x4B ∷ 0x54 ∷ 0x52 ∷ 0x00 ∷ 0x02 ∷ drop 5 fileA) ≡ broken 3 0
+  pub versionHigh : fileVerdict (0x4B ∷ 0x54 ∷ 0x52 ∷ 0x01 ∷ 0x01 ∷ drop 5 fileA) ≡ broken 3 0
+  -- "n 0: 4; n 1,024 passes, 1,025: 4. k 33: 5": on nine bytes, where a file that passes 4 and 5 gets 6
+  pub noNodes : fileVerdict (header 0x00 0x00 0x00 0x00) ≡ broken 4 0
+  pub mostNodesAndBudget : fileVerdict (header 0x04 0x00 0x00 0x20) ≡ broken 6 0
+  pub nodesOver : fileVerdict (header 0x04 0x01 0x00 0x00) ≡ broken 4 0
+  pub budgetOver : fileVerdict (header 0x00 0x01 0x00 0x21) ≡ broken 5 0
+  pub budgetHigh : fileVerdict (header 0x00 0x01 0x01 0x00) ≡ broken 5 0
+  -- "One byte too many: 6", and one byte too few
+  pub byteOver : fileVerdict (fileA ++ (0x00 ∷ [])) ≡ broken 6 0
+  pub byteUnder : fileVerdict (take 58 fileA) ≡ broken 6 0
+  -- "in this order": the first question that gets a "no"
+  pub oneFirst : fileVerdict (replicate 8 0x00) ≡ broken 1 0
+  pub twoFirst : fileVerdict (replicate 9 0x00) ≡ broken 2 0
+  pub threeFirst : fileVerdict (0x4B ∷ 0x54 ∷ 0x52 ∷ replicate 6 0x00) ≡ broken 3 0
+  pub fourFirst : fileVerdict (header 0x00 0x00 0x00 0x21) ≡ broken 4 0
+  pub sixFirst : fileVerdict (tooLong ++ (0x00 ∷ [])) ≡ broken 6 0
+  -- "Parent i at node i, i from 1 on: 7"; parent 256 at node 1; a parent that comes earlier, but is no ancestor of node i − 1
+  pub ownParent : fileVerdict (twoNodes (tenBytes 0x00 0x01 0x00 0x00 0x00 0x00 0x00 0x00 0x00 0x00)) ≡ broken 7 1
+  pub parentHigh : fileVerdict (twoNodes (tenBytes 0x01 0x00 0x00 0x00 0x00 0x00 0x00 0x00 0x00 0x00)) ≡ broken 7 1
+  pub noAncestor : fileVerdict (header 0x00 0x04 0x00 0x01 ++ replicate 30 0x00
+      ++ tenBytes 0x00 0x01 0x00 0x00 0x00 0x00 0x00 0x00 0x00 0x00) ≡ broken 7 3
+  -- depth 32 passes; "Depth 33: 8", also where the length is bad
+  pub deepest : fileVerdict (header 0x00 0x21 0x00 0x01 ++ serverRecord ++ chained 32) ≡ passed
+  pub tooDeep : fileVerdict (header 0x00 0x22 0x00 0x01 ++ serverRecord ++ chained 33) ≡ broken 8 33
+  pub depthBeforeLength : fileVerdict (header 0x00 0x22 0x00 0x01 ++ serverRecord ++ chained 32
+      ++ tenBytes 0x00 0x20 0x03 0xE9 0x00 0x00 0x00 0x00 0x00 0x00) ≡ broken 8 33
+  -- "Length 1,001: 9. Hit 1,001: 11", and flow 100,000,001: 10
+  pub largestPass : fileVerdict largest ≡ passed
+  pub lengthOver : fileVerdict tooLong ≡ broken 9 1
+  pub flowOver : fileVerdict (twoNodes (tenBytes 0x00 0x00 0x03 0xE8 0x05 0xF5 0xE1 0x01 0x03 0xE8)) ≡ broken 10 1
+  pub hitOver : fileVerdict (twoNodes (tenBytes 0x00 0x00 0x03 0xE8 0x05 0xF5 0xE1 0x00 0x03 0xE9)) ≡ broken 11 1
+  -- "Bad length and bad hit in one record: 9", and the other questions of a record in their order
+  pub lengthBeforeHit : fileVerdict (twoNodes (tenBytes 0x00 0x00 0x03 0xE9 0x00 0x00 0x00 0x00 0x03 0xE9)) ≡ broken 9 1
+  pub parentBeforeLength : fileVerdict (twoNodes (tenBytes 0x00 0x01 0x03 0xE9 0x00 0x00 0x00 0x00 0x00 0x00)) ≡ broken 7 1
+  pub lengthBeforeFlow : fileVerdict (twoNodes (tenBytes 0x00 0x00 0x03 0xE9 0x05 0xF5 0xE1 0x01 0x00 0x00)) ≡ broken 9 1
+  pub flowBeforeHit : fileVerdict (twoNodes (tenBytes 0x00 0x00 0x00 0x00 0x05 0xF5 0xE1 0x01 0x03 0xE9)) ≡ broken 10 1
+  -- "each through 7 to 11 before the next"
+  pub nodeByNode : fileVerdict (header 0x00 0x03 0x00 0x01 ++ serverRecord
+      ++ tenBytes 0x00 0x00 0x00 0x00 0x00 0x00 0x00 0x00 0x03 0xE9
+      ++ tenBytes 0x00 0x02 0x00 0x00 0x00 0x00 0x00 0x00 0x00 0x00) ≡ broken 11 1
+  -- node 0: parent and length are 0, flow and hit as anywhere
+  pub serverParent : fileVerdict (oneNode (tenBytes 0x00 0x01 0x00 0x00 0x00 0x00 0x00 0x00 0x00 0x00)) ≡ broken 7 0
+  pub serverLength : fileVerdict (oneNode (tenBytes 0x00 0x00 0x00 0x01 0x00 0x00 0x00 0x00 0x00 0x00)) ≡ broken 9 0
+  pub serverClient : fileVerdict (oneNode (tenBytes 0x00 0x00 0x00 0x00 0x05 0xF5 0xE1 0x00 0x03 0xE8)) ≡ passed
+  pub serverFlow : fileVerdict (oneNode (tenBytes 0x00 0x00 0x00 0x00 0x05 0xF5 0xE1 0x01 0x00 0x00)) ≡ broken 10 0
+  pub serverHit : fileVerdict (oneNode (tenBytes 0x00 0x00 0x00 0x00 0x00 0x00 0x00 0x00 0x03 0xE9)) ≡ broken 11 0
+
+-- ---- the calls
+
+pub record CallCases : Type 0 where
+  -- 100,000,000 × 1,000 × 1,000; all of it is saved by a cache with hit 1,000
+  pub largestTotal : total (treeOf largest) (demandOf largest) [] ≡ 100_000_000_000_000
+  pub largestSaved : total (treeOf largest) (demandOf largest) (1 ∷ []) ≡ 0
+  -- 12: a set is strictly ascending, each from 1 to n − 1
+  pub setPasses : billVerdict fileA (1 ∷ 4 ∷ []) (replicate 5 0) (replicate 5 0) ≡ passed
+  pub setOver : billVerdict fileA (5 ∷ []) (replicate 5 0) (replicate 5 0) ≡ broken 12 0
+  pub setOfServer : billVerdict fileA (0 ∷ []) (replicate 5 0) (replicate 5 0) ≡ broken 12 0
+  pub setTwice : billVerdict fileA (1 ∷ 1 ∷ []) (replicate 5 0) (replicate 5 0) ≡ broken 12 0
+  pub setDescends : billVerdict fileA (2 ∷ 1 ∷ []) (replicate 5 0) (replicate 5 0) ≡ broken 12 0
+  -- 14: n entries each; the order of 1 to 11, 12 and 14
+  pub servingsShort : billVerdict fileA (1 ∷ []) (replicate 4 0) (replicate 5 0) ≡ broken 14 0
+  pub loadsShort : billVerdict fileA (1 ∷ []) (replicate 5 0) (replicate 4 0) ≡ broken 14 0
+  pub setBeforeBuffers : billVerdict fileA (5 ∷ []) [] [] ≡ broken 12 0
+  pub fileBeforeSet : billVerdict tooLong (5 ∷ []) [] [] ≡ broken 9 1
+  -- what the bill of {1} and of {2, 4} writes
+  pub servingsOfOne : servingNodes fileA (1 ∷ []) ≡ 0 ∷ 1 ∷ 1 ∷ 1 ∷ 0 ∷ []
+  pub servingsOfTwo : servingNodes fileA (2 ∷ 4 ∷ []) ≡ 0 ∷ 0 ∷ 2 ∷ 0 ∷ 4 ∷ []
+  pub loadsOfTwo : linkLoads fileA (2 ∷ 4 ∷ []) ≡ 0 ∷ 20000 ∷ 0 ∷ 20000 ∷ 1000 ∷ []
+  -- "Entries beyond those written stay"; a refusal writes nothing
+  pub entriesStay : after passed (1 ∷ 2 ∷ []) (7 ∷ 8 ∷ 9 ∷ []) ≡ 1 ∷ 2 ∷ 9 ∷ []
+  pub refusalKeeps : after (broken 14 0) (1 ∷ 2 ∷ []) (7 ∷ []) ≡ 7 ∷ []
+  -- two sets ranked: by total, then order of ties; equal sets: first
+  pub lessIsFirst : ranking fileA (2 ∷ 3 ∷ []) (1 ∷ 2 ∷ []) ≡ answered first
+  pub lessIsSecond : ranking fileA (1 ∷ 2 ∷ []) (2 ∷ 3 ∷ []) ≡ answered second
+  pub tieIsFirst : ranking fileA (2 ∷ []) (3 ∷ []) ≡ answered first
+  pub tieIsSecond : ranking fileA (3 ∷ []) (2 ∷ []) ≡ answered second
+  pub equalIsFirst : ranking fileA (2 ∷ []) (2 ∷ []) ≡ answered first
+  pub firstSetOver : ranking fileA (5 ∷ []) (1 ∷ []) ≡ refused 12 0
+  pub secondSetOver : ranking fileA (1 ∷ []) (5 ∷ []) ≡ refused 12 0
+  pub rankedFileRefused : ranking tooLong (5 ∷ []) [] ≡ refused 9 1
+  pub winnerIsFirst : winner fileA (2 ∷ 3 ∷ []) (1 ∷ 2 ∷ []) ≡ 2 ∷ 3 ∷ []
+  pub winnerIsSecond : winner fileA (1 ∷ 2 ∷ []) (2 ∷ 3 ∷ []) ≡ 2 ∷ 3 ∷ []
+  pub noWinner : winner fileA (1 ∷ []) (5 ∷ []) ≡ []
+  -- the record of a node: "ten bytes", "empty if the file is refused or the node is not below n"
+  pub lastRecord : recordBytes fileA 4 ≡ 0x00 ∷ 0x00 ∷ 0x00 ∷ 0x04 ∷ 0x00 ∷ 0x00 ∷ 0x00 ∷ 0x05 ∷ 0x03 ∷ 0x20 ∷ []
+  pub recordPast : recordBytes fileA 5 ≡ []
+  pub recordRefused : recordBytes tooLong 0 ≡ []
+  -- what the plan and the greedy rule write: row b of a table of rows is the set of budget b
+  pub totalsOfPlan : planTotals fileA ≡ 140000 ∷ 60000 ∷ 20000 ∷ []
+  pub rowsOfPlan : planRows fileA ≡ 0 ∷ 0 ∷ 1 ∷ 0 ∷ 2 ∷ 3 ∷ []
+  pub totalsOfGreedy : greedyTotals fileA ≡ 140000 ∷ 60000 ∷ 40000 ∷ []
+  pub rowOfGreedy : greedyRow fileA ≡ 1 ∷ 2 ∷ []
+  pub setOfRowOne : setOfRow 2 (0 ∷ 0 ∷ 1 ∷ 0 ∷ 2 ∷ 3 ∷ []) 1 ≡ 1 ∷ []
+  pub setOfRowTwo : setOfRow 2 (0 ∷ 0 ∷ 1 ∷ 0 ∷ 2 ∷ 3 ∷ []) 2 ≡ 2 ∷ 3 ∷ []
+  -- "65 words pass, 64 give 13"; 9 nodes of height 8 with k 1: 9 × 9 × 2 + 4 × 9
+  pub scratchOfChain : scratchWords (header 0x00 0x09 0x00 0x01 ++ serverRecord ++ chained 8) ≡ 198
+  pub planPasses : planVerdict fileA (replicate 65 0) (replicate 3 0) (replicate 6 0) ≡ passed
+  pub planScratchShort : planVerdict fileA (replicate 64 0) [] [] ≡ broken 13 0
+  pub planTotalsShort : planVerdict fileA (replicate 65 0) (replicate 2 0) (replicate 6 0) ≡ broken 14 0
+  pub planRowsShort : planVerdict fileA (replicate 65 0) (replicate 3 0) (replicate 5 0) ≡ broken 14 0
+  pub planFileFirst : planVerdict tooLong [] [] [] ≡ broken 9 1
+  pub greedyPasses : greedyVerdict fileA (replicate 65 0) (replicate 3 0) (replicate 2 0) ≡ passed
+  pub greedyScratchShort : greedyVerdict fileA (replicate 64 0) [] [] ≡ broken 13 0
+  pub greedyTotalsShort : greedyVerdict fileA (replicate 65 0) (replicate 2 0) (replicate 2 0) ≡ broken 14 0
+  pub greedyTakenShort : greedyVerdict fileA (replicate 65 0) (replicate 3 0) (replicate 1 0) ≡ broken 14 0
+  pub greedyFileFirst : greedyVerdict tooLong [] [] [] ≡ broken 9 1
+  pub reportPasses : reportVerdict fileA (replicate 65 0) (replicate 3 0) (replicate 6 0) (replicate 3 0) (replicate 2 0) ≡ passed
+  pub reportScratchShort : reportVerdict fileA (replicate 64 0) [] [] [] [] ≡ broken 13 0
+  pub reportPlanShort : reportVerdict fileA (replicate 65 0) (replicate 3 0) (replicate 5 0) (replicate 3 0) (replicate 2 0) ≡ broken 14 0
+  pub reportGreedyShort : reportVerdict fileA (replicate 65 0) (replicate 3 0) (replicate 6 0) (replicate 3 0) (replicate 1 0) ≡ broken 14 0
+  pub reportFileFirst : reportVerdict tooLong [] [] [] [] [] ≡ broken 9 1
+  -- "A C host passes a file's bytes and gets 0 or the number"; a code is record × 256 + number
+  pub hostHearsNone : checkNumber fileA ≡ 0
+  pub hostHears : checkNumber tooLong ≡ 9
+  pub codeOfNone : codeOf (fileVerdict fileA) ≡ 0
+  pub codeOfNine : codeOf (fileVerdict tooLong) ≡ 265
+  pub wordsOfA : wordsAsked fileA ≡ 65
+  pub wordsOfRefused : wordsAsked tooLong ≡ 0
+  -- a host's bill: the buffer of the total has one entry
+  pub hostBillPasses : hostBillVerdict fileA (1 ∷ []) (replicate 1 0) (replicate 5 0) (replicate 5 0) ≡ passed
+  pub hostTotalShort : hostBillVerdict fileA (1 ∷ []) [] (replicate 5 0) (replicate 5 0) ≡ broken 14 0
+  pub hostLoadsShort : hostBillVerdict fileA (1 ∷ []) (replicate 1 0) (replicate 5 0) (replicate 4 0) ≡ broken 14 0
+  pub hostSetFirst : hostBillVerdict fileA (5 ∷ []) [] [] [] ≡ broken 12 0
+  pub hostFileFirst : hostBillVerdict tooLong (5 ∷ []) [] [] [] ≡ broken 9 1
+
+-- what a call that keeps its statement hands back, however it works: the 7s beyond what it writes stay, a refusal keeps all
+pub record StatementCases : Type 0 where
+  pub billSettled : {a : Answer ℕ} {servings′ loads′ : List ℕ}
+      → BillCall fileA (1 ∷ []) (replicate 6 7) (replicate 6 7) a servings′ loads′
+      → (a ≡ answered 60000)
+      × (servings′ ≡ 0 ∷ 1 ∷ 1 ∷ 1 ∷ 0 ∷ 7 ∷ [])
+      × (loads′ ≡ 0 ∷ 0 ∷ 20000 ∷ 20000 ∷ 5000 ∷ 7 ∷ [])
+  pub billRefused : {a : Answer ℕ} {servings loads servings′ loads′ : List ℕ}
+      → BillCall tooLong [] servings loads a servings′ loads′
+      → (a ≡ refused 9 1) × (servings′ ≡ servings) × (loads′ ≡ loads)
+  pub hostBillSettled : {v : Verdict} {totals′ servings′ loads′ : List ℕ}
+      → HostBillCall fileA (1 ∷ []) (replicate 2 7) (replicate 6 7) (replicate 6 7) v totals′ servings′ loads′
+      → (v ≡ passed)
+      × (totals′ ≡ 60000 ∷ 7 ∷ [])
+      × (servings′ ≡ 0 ∷ 1 ∷ 1 ∷ 1 ∷ 0 ∷ 7 ∷ [])
+      × (loads′ ≡ 0 ∷ 0 ∷ 20000 ∷ 20000 ∷ 5000 ∷ 7 ∷ [])
+  pub planSettled : {v : Verdict} {scratch′ totals′ rows′ : List ℕ}
+      → PlanCall fileA (replicate 66 7) (replicate 4 7) (replicate 7 7) v scratch′ totals′ rows′
+      → (v ≡ passed)
+      × (length scratch′ ≡ 66) × (drop 65 scratch′ ≡ 7 ∷ [])
+      × (totals′ ≡ 140000 ∷ 60000 ∷ 20000 ∷ 7 ∷ [])
+      × (rows′ ≡ 0 ∷ 0 ∷ 1 ∷ 0 ∷ 2 ∷ 3 ∷ 7 ∷ [])
+  pub planRefused : {v : Verdict} {scratch totals rows scratch′ totals′ rows′ : List ℕ}
+      → PlanCall tooLong scratch totals rows v scratch′ totals′ rows′
+      → (v ≡ broken 9 1) × (scratch′ ≡ scratch) × (totals′ ≡ totals) × (rows′ ≡ rows)
+  pub greedySettled : {v : Verdict} {scratch′ totals′ taken′ : List ℕ}
+      → GreedyCall fileA (replicate 66 7) (replicate 4 7) (replicate 3 7) v scratch′ totals′ taken′
+      → (v ≡ passed)
+      × (length scratch′ ≡ 66) × (drop 65 scratch′ ≡ 7 ∷ [])
+      × (totals′ ≡ 140000 ∷ 60000 ∷ 40000 ∷ 7 ∷ [])
+      × (taken′ ≡ 1 ∷ 2 ∷ 7 ∷ [])
+  pub reportSettled : {v : Verdict} {scratch′ totals′ rows′ greedys′ taken′ : List ℕ}
+      → ReportCall fileA (replicate 66 7) (replicate 4 7) (replicate 7 7) (replicate 4 7) (replicate 3 7) v scratch′ totals′ rows′ greedys′ taken′
+      → (v ≡ passed)
+      × (length scratch′ ≡ 66) × (drop 65 scratch′ ≡ 7 ∷ [])
+      × (totals′ ≡ 140000 ∷ 60000 ∷ 20000 ∷ 7 ∷ [])
+      × (rows′ ≡ 0 ∷ 0 ∷ 1 ∷ 0 ∷ 2 ∷ 3 ∷ 7 ∷ [])
+      × (greedys′ ≡ 140000 ∷ 60000 ∷ 40000 ∷ 7 ∷ [])
+      × (taken′ ≡ 1 ∷ 2 ∷ 7 ∷ [])
+
+-- ---- the report program
+
+pub record ProgramCases : Type 0 where
+  -- A's whole report
+  pub reportOfA : programText fileA
+      ≡ (0x30 ∷ 0x20 ∷ 0x31 ∷ 0x34 ∷ 0x30 ∷ 0x30 ∷ 0x30 ∷ 0x30 ∷ 0x20 ∷ 0x31 ∷ 0x34 ∷ 0x30 ∷ 0x30 ∷ 0x30 ∷ 0x30 ∷ 0x0A ∷ [])
+      ++ (0x31 ∷ 0x20 ∷ 0x36 ∷ 0x30 ∷ 0x30 ∷ 0x30 ∷ 0x30 ∷ 0x20 ∷ 0x36 ∷ 0x30 ∷ 0x30 ∷ 0x30 ∷ 0x30 ∷ 0x20 ∷ 0x31 ∷ 0x0A ∷ [])
+      ++ (0x32 ∷ 0x20 ∷ 0x32 ∷ 0x30 ∷ 0x30 ∷ 0x30 ∷ 0x30 ∷ 0x20 ∷ 0x34 ∷ 0x30 ∷ 0x30 ∷ 0x30 ∷ 0x30 ∷ 0x20 ∷ 0x32 ∷ 0x20 ∷ 0x33 ∷ 0x0A ∷ [])
+  -- `refused 9 1`
+  pub refusalOfLength : programText tooLong ≡ 0x72 ∷ 0x65 ∷ 0x66 ∷ 0x75 ∷ 0x73 ∷ 0x65 ∷ 0x64 ∷ 0x20 ∷ 0x39 ∷ 0x20 ∷ 0x31 ∷ 0x0A ∷ []
+  -- "its first 650 input bytes; if all 650 exist it answers 15 before question 1"
+  pub lookOver : programVerdict (replicate 650 0x00) ≡ broken 15 0
+  pub lookWithin : programVerdict (replicate 649 0x00) ≡ broken 2 0
+  -- `refused 15 0`
+  pub textOver : programText (fileA ++ replicate 600 0x00)
+      ≡ 0x72 ∷ 0x65 ∷ 0x66 ∷ 0x75 ∷ 0x73 ∷ 0x65 ∷ 0x64 ∷ 0x20 ∷ 0x31 ∷ 0x35 ∷ 0x20 ∷ 0x30 ∷ 0x0A ∷ []
+  -- "n at most 64, h at most 8 and k at most 8", asked "right after 11"
+  pub nodesWithin : isSmall (header 0x00 0x40 0x00 0x08) ≡ true
+  pub nodesBeyond : isSmall (header 0x00 0x41 0x00 0x08) ≡ false
+  pub heightWithin : programVerdict (header 0x00 0x09 0x00 0x08 ++ serverRecord ++ chained 8) ≡ passed
+  pub heightBeyond : programVerdict (header 0x00 0x0A 0x00 0x08 ++ serverRecord ++ chained 9) ≡ broken 15 0
+  pub budgetBeyond : programVerdict (header 0x00 0x01 0x00 0x09 ++ serverRecord) ≡ broken 15 0
+  pub elevenFirst : programVerdict (header 0x00 0x01 0x00 0x09 ++ tenBytes 0x00 0x00 0x00 0x00 0x00 0x00 0x00 0x00 0x03 0xE9) ≡ broken 11 0
+
+-- all of them
+pub record Worked : Type 0 where
+  pub files : FileCases
+  pub calls : CallCases
+  pub statements : StatementCases
+  pub program : ProgramCases
