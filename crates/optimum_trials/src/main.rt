@@ -1,8 +1,9 @@
 // Sets the planner against full enumeration: on thousands of trees of at most six nodes, with ties of every kind, it compares
-// what the report holds at each budget, the bills of two sets and their ranking with a reference that shares no code with the
-// planner, and the report's buffers with those of the plan call and of the greedy call.
+// what the report holds at each budget, the bills of two sets and the rankings of many with a reference that shares no code with
+// the planner, and the report's buffers with those of the plan call and of the greedy call.
 //
-// It writes a line for each difference, and last how many trees it went through.
+// It writes a line for each difference, and last how many trees and rankings it went through, how many of these were of two sets
+// with equal totals, and how many refusals by rule 12.
 ghost use Prim.Native.Nat.{_≤_, _<_};
 use compare::Ranking;
 use libc::STDOUT_FILENO;
@@ -14,11 +15,12 @@ const TREES: u64 = 6000;
 
 // ---- what differs
 
-fn differs(i: u64, b: usize, what: &[u8]) {
+// Prints that something of tree i differs at a budget, a node or a set.
+fn differs(i: u64, at: usize, what: &[u8]) {
     io::write_all(STDOUT_FILENO, b"tree");
     trial_text::print_number(i);
-    io::write_all(STDOUT_FILENO, b" budget");
-    trial_text::print_number(b as u64);
+    io::write_all(STDOUT_FILENO, b" at");
+    trial_text::print_number(at as u64);
     io::write_all(STDOUT_FILENO, what);
     io::write_all(STDOUT_FILENO, b" differs\n");
 }
@@ -248,7 +250,7 @@ fn check_report(i: u64, tree: SmallTree, k: usize, file: &[u8])
     check_greedy_call(i, file, &greedys, &taken);
 }
 
-// ---- the bill of a set, and the ranking of two
+// ---- the bill of a set
 
 fn has_total(bill: Billed, total: u64) -> bool {
     match bill {
@@ -287,11 +289,33 @@ fn check_bill(i: u64, tree: SmallTree, set: u8, file: &[u8]) {
     }
 }
 
-fn is_first(ranking: Ranking) -> bool {
-    if let Ranking::First = ranking {
-        true
-    } else {
-        false
+// ---- the ranking of two sets
+
+// Does a ranking name the first set, if that one ranks first, and else the second?
+fn names(ranking: Ranking, first: bool) -> bool {
+    match ranking {
+        Ranking::First => first,
+        Ranking::Second => !first,
+        Ranking::Refused(_, _) => false,
+    }
+}
+
+// Is a ranking refused by rule 12?
+fn is_refused(ranking: Ranking) -> bool {
+    match ranking {
+        Ranking::Refused(rule, record) => { if rule == 12 { record == 0 } else { false } }
+        _ => false,
+    }
+}
+
+// The ranking of two sets, and the set handed back, where the reference says whether the first ranks first.
+fn check_pair<'a>(i: u64, file: &[u8], first: &'a [u16], second: &'a [u16], leads: bool) {
+    let best = if leads { first } else { second };
+    if !names(compare::rank(file, first, second), leads) {
+        differs(i, small_trees::set_of(second) as usize, b" ranking");
+    }
+    if !same_nodes(compare::winner(file, first, second), best) {
+        differs(i, small_trees::set_of(second) as usize, b" winner");
     }
 }
 
@@ -300,10 +324,69 @@ fn check_ranking(i: u64, tree: SmallTree, one: u8, other: u8, file: &[u8]) {
     let a = small_trees::write_set(one, &mut first);
     let mut second = [0u16; 6];
     let b = small_trees::write_set(other, &mut second);
-    let ranking = compare::rank(file, &first[0..a], &second[0..b]);
-    if is_first(ranking) != small_plans::ranks_first(tree, one, other) {
-        differs(i, 0, b" ranking");
+    let leads = small_plans::ranks_first(tree, one, other);
+    check_pair(i, file, &first[0..a], &second[0..b], leads);
+}
+
+// How many rankings were compared, and how many of them were of two sets with equal totals.
+struct Count {
+    rankings: u64,
+    ties: u64,
+}
+
+// Two rankings more, of these two sets.
+fn counted(so_far: Count, tree: SmallTree, one: u8, other: u8) -> Count {
+    let rankings = std::num::wrapping_add_u64(so_far.rankings, 2);
+    if one != other {
+        if small_plans::total(tree, one) == small_plans::total(tree, other) {
+            return Count {
+                rankings,
+                ties: std::num::wrapping_add_u64(so_far.ties, 2),
+            };
+        }
     }
+    Count {
+        rankings,
+        ties: so_far.ties,
+    }
+}
+
+// Every set of the tree's nodes against this one, both ways round.
+fn check_rankings(i: u64, tree: SmallTree, set: u8, file: &[u8], so_far: Count) -> Count {
+    let mut count = so_far;
+    let mut mask = 0;
+    while mask < 64 {
+        if small_plans::is_choice(tree, mask, 6) {
+            check_ranking(i, tree, set, mask, file);
+            check_ranking(i, tree, mask, set, file);
+            count = counted(count, tree, set, mask);
+        }
+        mask += 1;
+    }
+    count
+}
+
+// A set that is not one of the tree's is refused, be it first or second, and nothing is handed back.
+fn check_refusals<'a>(i: u64, file: &[u8], set: &'a [u16], wrong: &'a [u16]) {
+    if !is_refused(compare::rank(file, wrong, set)) {
+        differs(i, 0, b" refusal of the first set");
+    }
+    if !is_refused(compare::rank(file, set, wrong)) {
+        differs(i, 0, b" refusal of the second set");
+    }
+    if compare::winner(file, wrong, set).len() != 0 {
+        differs(i, 0, b" winner of a refusal");
+    }
+}
+
+// The server, and a node that the tree lacks, beside a set of the tree.
+fn check_wrong_sets(i: u64, tree: SmallTree, one: u8, file: &[u8]) {
+    let mut set = [0u16; 6];
+    let a = small_trees::write_set(one, &mut set);
+    let server = [0u16];
+    let beyond = [(tree.nodes % 65536) as u16];
+    check_refusals(i, file, &set[0..a], &server);
+    check_refusals(i, file, &set[0..a], &beyond);
 }
 
 // ---- the trees
@@ -314,7 +397,20 @@ fn budget_of(tree: SmallTree) -> usize
     if tree.budget < 6 { tree.budget } else { 6 }
 }
 
-fn check_tree(i: u64) {
+// The set of tree i that all others are ranked against: the plan's, or in each second dozen of trees one that changes from tree
+// to tree, empty where the tree lacks a node of it.
+fn ranked_set(tree: SmallTree, i: u64, plan: u8) -> u8 {
+    let mask = (i / 24 % 32 * 2) as u8;
+    if i / 12 % 2 == 0 {
+        return plan;
+    }
+    if small_plans::is_choice(tree, mask, 6) {
+        return mask;
+    }
+    0
+}
+
+fn check_tree(i: u64, so_far: Count) -> Count {
     let tree = small_trees::nth_tree(i);
     let k = budget_of(tree);
     let mut space = [0u8; 69];
@@ -325,21 +421,32 @@ fn check_tree(i: u64) {
     let taken = small_plans::greedy(tree, k);
     check_bill(i, tree, plan, file);
     check_bill(i, tree, taken, file);
-    check_ranking(i, tree, plan, taken, file);
-    check_ranking(i, tree, taken, plan, file);
+    check_wrong_sets(i, tree, plan, file);
+    check_rankings(i, tree, ranked_set(tree, i, plan), file, so_far)
 }
 
-fn check_trees() {
+fn check_trees() -> Count {
+    let mut count = Count {
+        rankings: 0,
+        ties: 0,
+    };
     let mut i = 0;
     while i < TREES {
-        check_tree(i);
+        count = check_tree(i, count);
         i += 1;
     }
+    count
 }
 
 fn main() {
-    check_trees();
+    let count = check_trees();
     io::write_all(STDOUT_FILENO, b"trees");
     trial_text::print_number(TREES);
+    io::write_all(STDOUT_FILENO, b"\nrankings");
+    trial_text::print_number(count.rankings);
+    io::write_all(STDOUT_FILENO, b"\nrankings of sets with equal totals");
+    trial_text::print_number(count.ties);
+    io::write_all(STDOUT_FILENO, b"\nrefusals by rule 12");
+    trial_text::print_number(4 * TREES);
     io::write_all(STDOUT_FILENO, b"\n");
 }

@@ -5,10 +5,10 @@ use Rattle.optimum_trials.proofs.check_trees.Statement.{statement}
 use Rattle.optimum_trials.proofs.check_trees.Tie as tie
 
 abbrev Inv-loop : tie.InvT-loop
-Inv-loop i₀ i = i ≤ 6000
+Inv-loop count₀ i₀ count i = i ≤ 6000
 
 abbrev μ-loop : tie.MeasureT-loop
-μ-loop i₀ i = 6000 - i
+μ-loop count₀ i₀ count i = 6000 - i
 
 loop-holds : tie.Need-loop-holds Inv-loop μ-loop
 loop-holds c = search needs
