@@ -18,10 +18,14 @@ buffers-long-requires : tie.Need-buffers-long-requires
 buffers-long-requires c κs = lent-sizes _ _ (ap answerOf (sym (c .before .checked .given .1)) ∙ c .before .before .before .check .ensures) .budget
 
 returns : tie.Need-returns
-returns c = greedy-short _ _ _ _ (ap answerOf (sym (c .before .before .before .checked .given .1)) ∙ c .before .before .before .before .before .check .ensures) (failed (c .before .buffers-long .ensures) (c .if1 .taken))
+returns c =
+    let b = c .before in
+    greedy-short _ _ _ _ (ap answerOf (sym (b .before .before .checked .given .1)) ∙ b .before .before .before .before .check .ensures) (failed (b .buffers-long .ensures) (c .if1 .taken))
 
 run-requires : tie.Need-run-requires
-run-requires c κs = greedy-room _ _ _ _ (ap answerOf (sym (c .before .before .before .before .before .before .checked .given .1)) ∙ c .before .before .before .before .before .before .before .before .check .ensures) (held (c .before .before .before .before .buffers-long .ensures) (c .before .before .before .if1 .left))
+run-requires c κs =
+    let b = c .before .before .before .before in
+    greedy-room _ _ _ _ (ap answerOf (sym (b .before .before .checked .given .1)) ∙ b .before .before .before .before .check .ensures) (held (b .buffers-long .ensures) (c .before .before .before .if1 .left))
 
 enum-known-checked-2 : tie.Need-enum-known-checked-2
 enum-known-checked-2 c = search needs
@@ -36,7 +40,11 @@ same-length-3 : tie.Need-same-length-3
 same-length-3 c = search needs
 
 returns-2 : tie.Need-returns-2
-returns-2 c = greedy-written _ _ _ _ (ap answerOf (sym (c .before .before .before .before .before .before .before .before .before .before .before .before .before .checked .given .1)) ∙ c .before .before .before .before .before .before .before .before .before .before .before .before .before .before .before .check .ensures) (held (c .before .before .before .before .before .before .before .before .before .before .before .buffers-long .ensures) (c .before .before .before .before .before .before .before .before .before .before .if1 .left)) (c .before .before .before .before .before .before .run .ensures)
+returns-2 c =
+    let r = c .before .before .before .before .before .before in
+    let b = r .before .before .before .before .before in
+    let told = ap answerOf (sym (b .before .before .checked .given .1)) ∙ b .before .before .before .before .check .ensures in
+    greedy-written _ _ _ _ told (held (b .buffers-long .ensures) (r .before .before .before .before .if1 .left)) (r .run .ensures)
 
 returns-3 : tie.Need-returns-3
 returns-3 c = greedy-refused _ _ _ _ (ap answerOf (sym (c .before .checked2 .given .1)) ∙ c .before .before .before .check .ensures)

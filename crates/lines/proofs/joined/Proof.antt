@@ -15,6 +15,13 @@ Inv-loop line₀ first second w end stop r₀ line r =
 abbrev μ-loop : tie.MeasureT-loop
 μ-loop line₀ first second w end stop r₀ line r = stop - r
 
+-- the start and the loop's state, seen from where the number of entries to lower was found
+abbrev start : tie.After-lesser Inv-loop μ-loop → tie.Start Inv-loop μ-loop
+start e = e .before .before .before .before .before .before .before .before .before .before .before
+
+abbrev state : tie.After-lesser Inv-loop μ-loop → tie.At-loop Inv-loop μ-loop
+state e = e .before .before .before
+
 clear-requires : tie.Need-clear-requires Inv-loop μ-loop
 clear-requires c κs = search needs
 
@@ -31,15 +38,15 @@ lesser-requires : tie.Need-lesser-requires Inv-loop μ-loop
 lesser-requires c κs = search needs
 
 mul-t17 : tie.Need-mul-t17 Inv-loop μ-loop
-mul-t17 c = let p = c .before .before .before .before .before .before .before .before .before .before .before .pre .1 in omega (arith, p .long .1, p .ends .1)
+mul-t17 c = let p = start c .pre .1 in omega (arith, p .long .1, p .ends .1)
 
 shared-slice-read-t19 : tie.Need-shared-slice-read-t19 Inv-loop μ-loop
-shared-slice-read-t19 c = let p = c .before .before .before .before .before .before .before .before .before .before .before .before .pre .1 in omega (arith, p .long .1, p .ends .1)
+shared-slice-read-t19 c = let p = start (c .before) .pre .1 in omega (arith, p .long .1, p .ends .1)
 
 lower-requires : tie.Need-lower-requires Inv-loop μ-loop
 lower-requires c κs =
-    let p = c .before .before .before .before .before .before .before .before .before .before .before .before .pre .1 in
-    let l = c .before .before .before .before .loop in
+    let p = start (c .before) .pre .1 in
+    let l = state (c .before) .loop in
     let e = c .before .lesser .ensures in (
       (omega (arith, e, p .ends .1, l .inv .1), omega (arith, e, p .long .0)),
       λ n h. p .fits n (l .r) (omega (arith, e)) (omega (arith, p .ends .1)),
@@ -54,12 +61,12 @@ loop-less c = search needs
 loop-again : tie.Need-loop-again Inv-loop μ-loop
 loop-again c =
     let lower = c .before .before .lower in
-    let e = c .before .before .before .before .lesser in
-    let l = c .before .before .before .before .before .before .before .loop in
-    let s = c .before .before .before .before .before .before .before .before .before .before .before .before .before .before .before in (
+    let e = c .before .before .before .before in
+    let l = state e .loop in
+    let s = start e in (
       omega arith,
       lower .kept .0 ∙ l .inv .1,
-      row-turns (s .args .first .now) (s .args .second .now) (s .args .w) (s .args .end) (l .r) (e .result) (l .line) (lower .last .0) (s .pre .1 .none .0) refl (e .ensures) (l .inv .2) (lower .ensures),
+      row-turns (s .args .first .now) (s .args .second .now) (s .args .w) (s .args .end) (l .r) (e .lesser .result) (l .line) (lower .last .0) (s .pre .1 .none .0) refl (e .lesser .ensures) (l .inv .2) (lower .ensures),
     )
 
 same-length : tie.Need-same-length Inv-loop μ-loop

@@ -18,14 +18,17 @@ buffers-long-requires : tie.Need-buffers-long-requires
 buffers-long-requires c κs = lent-sizes _ _ (ap answerOf (sym (c .before .checked .given .1)) ∙ c .before .before .before .check .ensures) .budget
 
 returns : tie.Need-returns
-returns c = plan-short _ _ _ _ (ap answerOf (sym (c .before .before .before .checked .given .1)) ∙ c .before .before .before .before .before .check .ensures) (failed (c .before .buffers-long .ensures) (c .if1 .taken))
+returns c =
+    let b = c .before in
+    plan-short _ _ _ _ (ap answerOf (sym (b .before .before .checked .given .1)) ∙ b .before .before .before .before .check .ensures) (failed (b .buffers-long .ensures) (c .if1 .taken))
 
 make-plan-requires : tie.Need-make-plan-requires
 make-plan-requires c κs =
-    let a = c .before .before .before .before .before .before .before .before .before .before .before .before .before .args in
-    let told = ap answerOf (sym (c .before .before .before .before .before .before .checked .given .1)) ∙ c .before .before .before .before .before .before .before .before .check .ensures in (
+    let b = c .before .before .before .before in
+    let a = b .before .before .before .before .before .before .before .before .before .args in
+    let told = ap answerOf (sym (b .before .before .checked .given .1)) ∙ b .before .before .before .before .check .ensures in (
       plan-room (a .file .now) (a .scratch .now) told,
-      plan-long (a .file .now) (a .scratch .now) (a .totals .now) (a .rows .now) told (held (c .before .before .before .before .buffers-long .ensures) (c .before .before .before .if1 .left)),
+      plan-long (a .file .now) (a .scratch .now) (a .totals .now) (a .rows .now) told (held (b .buffers-long .ensures) (c .before .before .before .if1 .left)),
     )
 
 enum-known-checked-2 : tie.Need-enum-known-checked-2
@@ -42,8 +45,11 @@ same-length-3 c = search needs
 
 returns-2 : tie.Need-returns-2
 returns-2 c =
-    let made = c .before .before .before .before .before .before .make-plan .ensures in
-    plan-written _ _ _ _ (ap answerOf (sym (c .before .before .before .before .before .before .before .before .before .before .before .before .before .checked .given .1)) ∙ c .before .before .before .before .before .before .before .before .before .before .before .before .before .before .before .check .ensures) (held (c .before .before .before .before .before .before .before .before .before .before .before .buffers-long .ensures) (c .before .before .before .before .before .before .before .before .before .before .if1 .left)) (made .0) (made .1 .0) (made .1 .1)
+    let m = c .before .before .before .before .before .before in
+    let b = m .before .before .before .before .before in
+    let told = ap answerOf (sym (b .before .before .checked .given .1)) ∙ b .before .before .before .before .check .ensures in
+    let made = m .make-plan .ensures in
+    plan-written _ _ _ _ told (held (b .buffers-long .ensures) (m .before .before .before .before .if1 .left)) (made .0) (made .1 .0) (made .1 .1)
 
 returns-3 : tie.Need-returns-3
 returns-3 c = plan-refused _ _ _ _ (ap answerOf (sym (c .before .checked2 .given .1)) ∙ c .before .before .before .check .ensures)

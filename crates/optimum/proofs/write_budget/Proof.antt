@@ -9,6 +9,10 @@ use Rattle.optimum.proofs.Budgets.{line-place, counts-there, count-foun
 use Rattle.optimum.proofs.write_budget.Statement.{statement}
 use Rattle.optimum.proofs.write_budget.Tie as tie
 
+-- the start, seen from where the number of caches was found
+abbrev start : tie.After-better-count → tie.Start
+start n = n .before .before .before .before .before .before .before
+
 child-of-requires : tie.Need-child-of-requires
 child-of-requires c κs = let r = c .before .before .before .before .pre .0 .table in table-has-node r (table-sound r .some)
 
@@ -19,10 +23,12 @@ better-count-requires : tie.Need-better-count-requires
 better-count-requires c κs = counts-there (c .before .before .before .before .before .before .pre .0) (c .before .child-of .ensures) (c .line .ensures)
 
 mul-totals : tie.Need-mul-totals
-mul-totals c = omega (arith, count-there (c .before .before .before .before .before .before .before .pre .0) (c .before .before .child-of .ensures) (c .before .line .ensures) (c .better-count .ensures))
+mul-totals c = omega (arith, count-there (start c .pre .0) (c .before .before .child-of .ensures) (c .before .line .ensures) (c .better-count .ensures))
 
 shared-slice-read-totals : tie.Need-shared-slice-read-totals
-shared-slice-read-totals c = count-there (c .before .before .before .before .before .before .before .before .pre .0) (c .before .before .before .child-of .ensures) (c .before .before .line .ensures) (c .before .better-count .ensures)
+shared-slice-read-totals c =
+    let n = c .before in
+    count-there (start n .pre .0) (n .before .before .child-of .ensures) (n .before .line .ensures) (n .better-count .ensures)
 
 mul-totals-2 : tie.Need-mul-totals-2
 mul-totals-2 c = search needs
@@ -31,10 +37,12 @@ slice-write-totals : tie.Need-slice-write-totals
 slice-write-totals c = search needs
 
 mul-write-row : tie.Need-mul-write-row
-mul-write-row c = omega (arith, budget-row (c .before .before .before .before .before .before .before .before .before .before .pre .0) (c .before .before .before .before .before .child-of .ensures) (c .before .before .before .before .line .ensures) (c .before .before .before .better-count .ensures) (c .before .before .before .before .before .before .before .before .before .before .pre .1) .1)
+mul-write-row c = let st = c .before .before .before .before .before .before .before .before .before .before in omega (arith, budget-row (st .pre .0) (c .before .before .before .before .before .child-of .ensures) (c .before .before .before .before .line .ensures) (c .before .before .before .better-count .ensures) (st .pre .1) .1)
 
 write-row-requires : tie.Need-write-row-requires
-write-row-requires c κs = budget-row (c .before .before .before .before .before .before .before .before .before .before .pre .0) (c .before .before .before .before .before .child-of .ensures) (c .before .before .before .before .line .ensures) (c .before .before .before .better-count .ensures) (c .before .before .before .before .before .before .before .before .before .before .pre .1)
+write-row-requires c κs =
+    let n = c .before .before .before in
+    budget-row (start n .pre .0) (n .before .before .child-of .ensures) (n .before .line .ensures) (n .better-count .ensures) (start n .pre .1)
 
 same-length : tie.Need-same-length
 same-length c = search needs
@@ -44,11 +52,12 @@ same-length-2 c = search needs
 
 returns : tie.Need-returns
 returns c =
-    let b = c .before .before .before .before .before .before .before .before .before .before .before .before .before .pre .0 in
-    let a = c .before .before .before .before .before .before .before .before .before .before .before .before .before .args in
-    let first = c .before .before .before .before .before .before .before .before .child-of .ensures in
-    let line = c .before .before .before .before .before .before .before .line .ensures in
-    let count = c .before .before .before .before .before .before .better-count .ensures in (
+    let n = c .before .before .before .before .before .before in
+    let b = start n .pre .0 in
+    let a = start n .args in
+    let first = n .before .before .child-of .ensures in
+    let line = n .before .line .ensures in
+    let count = n .better-count .ensures in (
       count-found b first line count,
       (
         ap (set (a .totals .now) (a .b)) (total-found b first line count),

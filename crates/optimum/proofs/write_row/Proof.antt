@@ -16,13 +16,19 @@ add-clear : tie.Need-add-clear
 add-clear c = search needs
 
 clear-requires : tie.Need-clear-requires
-clear-requires c κs = (row-ends-within (c .before .before .before .before .before .before .before .before .before .before .pre .0) (c .before .before .before .before .walk-row .ensures .0), omega (arith, c .before .before .before .before .before .before .before .before .before .before .pre .1, c .before .before .before .before .walk-row .kept .1 .1 .1 .0))
+clear-requires c κs =
+    let w = c .before .before .before .before in
+    let st = w .before .before .before .before .before .before in
+    (row-ends-within (st .pre .0) (w .walk-row .ensures .0), omega (arith, st .pre .1, w .walk-row .kept .1 .1 .1 .0))
 
 same-length : tie.Need-same-length
 same-length c = search needs
 
 returns : tie.Need-returns
-returns c = row-then-zeros (c .before .before .before .before .before .before .before .before .before .before .before .before .before .pre .0) _ (c .before .before .before .before .before .before .before .before .child-of .ensures) (c .before .before .before .before .before .before .before .walk-row .ensures .0) (c .before .before .before .before .before .before .before .walk-row .ensures .1) (c .before .before .clear .ensures)
+returns c =
+    let w = c .before .before .before .before .before .before .before in
+    let st = w .before .before .before .before .before .before in
+    row-then-zeros (st .pre .0) _ (w .before .child-of .ensures) (w .walk-row .ensures .0) (w .walk-row .ensures .1) (c .before .before .clear .ensures)
 
 pub write-row-spec : {M : Type 1} → statement M
 write-row-spec =
