@@ -14,11 +14,11 @@ fn answer(file: &[u8], beyond: usize, scratch: &mut [u64], totals: &mut [u64], r
 // Lends as much of each buffer as the line says.
 fn answer_file(line: &[u8], file: &[u8]) {
     let mut scratch = trial_text::scratch_room(5432123);
-    let mut totals = [987654321u64; 40];
-    let mut rows = [4321u16; 1100];
     let a = trial_text::entries(line, 1, 40960);
     let beyond = trial_text::entries(line, 2, 40960);
+    let mut totals = [987654321u64; 40];
     let b = trial_text::entries(line, 3, 40);
+    let mut rows = [4321u16; 1100];
     let c = trial_text::entries(line, 4, 1100);
     answer(
         file,
