@@ -274,7 +274,7 @@ pub fn buffers_long(k: usize, totals: usize, taken: usize) -> bool
 
 // Rules 1 to 11, 13 and 14, then the greedy rule; nothing is written before they all hold.
 pub fn greedy(file: &[u8], scratch: &mut [u64], totals: &mut [u64], taken: &mut [u16]) -> Ruling
-    ensures { λ r. ⌜ GreedyCall (now (file .entry)) (now (scratch .entry)) (now (totals .entry)) (now (taken .entry)) (verdictOf r) (now (scratch .exit)) (now (totals .exit)) (now (taken .exit)) ⌝ }
+    ensures { λ r. ⌜ GreedyCall (now (file .entry)) record { scratch = now (scratch .entry); totals = now (totals .entry); nodes = now (taken .entry) } (verdictOf r) record { scratch = now (scratch .exit); totals = now (totals .exit); nodes = now (taken .exit) } ⌝ }
 {
     let checked = lent::check(file, scratch.len());
     match checked {

@@ -13,18 +13,25 @@ fn answer(
     scratch: &mut [u64],
     totals: &mut [u64],
     rows: &mut [u16],
-    greedys: &mut [u64],
-    taken: &mut [u16],
+    greedy_totals: &mut [u64],
+    greedy_nodes: &mut [u16],
 ) {
-    trial_text::print_ruling(report::report(file, scratch, totals, rows, greedys, taken));
+    trial_text::print_ruling(report::report(
+        file,
+        scratch,
+        totals,
+        rows,
+        greedy_totals,
+        greedy_nodes,
+    ));
     io::write_all(STDOUT_FILENO, b" totals");
     trial_text::print_totals(totals);
     io::write_all(STDOUT_FILENO, b" rows");
     trial_text::print_numbers(rows);
     io::write_all(STDOUT_FILENO, b" greedys");
-    trial_text::print_totals(greedys);
+    trial_text::print_totals(greedy_totals);
     io::write_all(STDOUT_FILENO, b" taken");
-    trial_text::print_numbers(taken);
+    trial_text::print_numbers(greedy_nodes);
     if trial_text::all_from(scratch, beyond, 5432123) {
         io::write_all(STDOUT_FILENO, b" kept");
     }
@@ -37,8 +44,8 @@ fn answer_line(line: &[u8]) {
     let mut scratch = [5432123u64; 40960];
     let mut totals = [987654321u64; 40];
     let mut rows = [4321u16; 1100];
-    let mut greedys = [123456789u64; 40];
-    let mut taken = [1234u16; 40];
+    let mut greedy_totals = [123456789u64; 40];
+    let mut greedy_nodes = [1234u16; 40];
     let a = trial_text::number_within(trial_text::word(line, 1), 40960);
     let beyond = trial_text::number_within(trial_text::word(line, 2), 40960);
     let b = trial_text::number_within(trial_text::word(line, 3), 40);
@@ -51,8 +58,8 @@ fn answer_line(line: &[u8]) {
         &mut scratch[0..a],
         &mut totals[0..b],
         &mut rows[0..c],
-        &mut greedys[0..d],
-        &mut taken[0..e],
+        &mut greedy_totals[0..d],
+        &mut greedy_nodes[0..e],
     );
     io::write_all(STDOUT_FILENO, b"\n");
 }

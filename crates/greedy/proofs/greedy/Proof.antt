@@ -18,10 +18,10 @@ buffers-long-requires : tie.Need-buffers-long-requires
 buffers-long-requires c κs = lent-sizes _ _ (ap answerOf (sym (c .before .checked .given .1)) ∙ c .before .before .before .check .ensures) .budget
 
 returns : tie.Need-returns
-returns c = greedy-short _ _ _ _ (ap answerOf (sym (c .before .before .before .checked .given .1)) ∙ c .before .before .before .before .before .check .ensures) (failed (c .before .buffers-long .ensures) (c .if1 .taken))
+returns c = greedy-short _ _ (ap answerOf (sym (c .before .before .before .checked .given .1)) ∙ c .before .before .before .before .before .check .ensures) (failed (c .before .buffers-long .ensures) (c .if1 .taken))
 
 run-requires : tie.Need-run-requires
-run-requires c κs = greedy-granted _ _ _ _ (ap answerOf (sym (c .before .before .before .before .before .before .checked .given .1)) ∙ c .before .before .before .before .before .before .before .before .check .ensures) (held (c .before .before .before .before .buffers-long .ensures) (c .before .before .before .if1 .left))
+run-requires c κs = greedy-granted _ _ (ap answerOf (sym (c .before .before .before .before .before .before .checked .given .1)) ∙ c .before .before .before .before .before .before .before .before .check .ensures) (held (c .before .before .before .before .buffers-long .ensures) (c .before .before .before .if1 .left))
 
 enum-known-checked-2 : tie.Need-enum-known-checked-2
 enum-known-checked-2 c = search needs
@@ -36,10 +36,10 @@ same-length-3 : tie.Need-same-length-3
 same-length-3 c = search needs
 
 returns-2 : tie.Need-returns-2
-returns-2 c = greedy-written _ _ _ _ (ap answerOf (sym (c .before .before .before .before .before .before .before .before .before .before .before .before .before .checked .given .1)) ∙ c .before .before .before .before .before .before .before .before .before .before .before .before .before .before .before .check .ensures) (held (c .before .before .before .before .before .before .before .before .before .before .before .buffers-long .ensures) (c .before .before .before .before .before .before .before .before .before .before .if1 .left)) (c .before .before .before .before .before .before .run .ensures)
+returns-2 c = greedy-written _ _ (ap answerOf (sym (c .before .before .before .before .before .before .before .before .before .before .before .before .before .checked .given .1)) ∙ c .before .before .before .before .before .before .before .before .before .before .before .before .before .before .before .check .ensures) (held (c .before .before .before .before .before .before .before .before .before .before .before .buffers-long .ensures) (c .before .before .before .before .before .before .before .before .before .before .if1 .left)) (c .before .before .before .before .before .before .run .ensures)
 
 returns-3 : tie.Need-returns-3
-returns-3 c = greedy-refused _ _ _ _ (ap answerOf (sym (c .before .checked2 .given .1)) ∙ c .before .before .before .check .ensures)
+returns-3 c = greedy-refused _ _ (ap answerOf (sym (c .before .checked2 .given .1)) ∙ c .before .before .before .check .ensures)
 
 pub greedy-spec : {M : Type 1} → statement M
 greedy-spec =

@@ -18,14 +18,14 @@ buffers-long-requires : tie.Need-buffers-long-requires
 buffers-long-requires c κs = lent-sizes _ _ (ap answerOf (sym (c .before .checked .given .1)) ∙ c .before .before .before .check .ensures) .budget
 
 returns : tie.Need-returns
-returns c = plan-short _ _ _ _ (ap answerOf (sym (c .before .before .before .checked .given .1)) ∙ c .before .before .before .before .before .check .ensures) (failed (c .before .buffers-long .ensures) (c .if1 .taken))
+returns c = plan-short _ _ (ap answerOf (sym (c .before .before .before .checked .given .1)) ∙ c .before .before .before .before .before .check .ensures) (failed (c .before .buffers-long .ensures) (c .if1 .taken))
 
 make-plan-requires : tie.Need-make-plan-requires
 make-plan-requires c κs =
     let a = c .before .before .before .before .before .before .before .before .before .before .before .before .before .args in
     let told = ap answerOf (sym (c .before .before .before .before .before .before .checked .given .1)) ∙ c .before .before .before .before .before .before .before .before .check .ensures in (
       plan-room (a .file .now) (a .scratch .now) told,
-      plan-long (a .file .now) (a .scratch .now) (a .totals .now) (a .rows .now) told (held (c .before .before .before .before .buffers-long .ensures) (c .before .before .before .if1 .left)),
+      plan-long (a .file .now) record { scratch = a .scratch .now; totals = a .totals .now; rows = a .rows .now } told (held (c .before .before .before .before .buffers-long .ensures) (c .before .before .before .if1 .left)),
     )
 
 enum-known-checked-2 : tie.Need-enum-known-checked-2
@@ -43,10 +43,10 @@ same-length-3 c = search needs
 returns-2 : tie.Need-returns-2
 returns-2 c =
     let made = c .before .before .before .before .before .before .make-plan .ensures in
-    plan-written _ _ _ _ (ap answerOf (sym (c .before .before .before .before .before .before .before .before .before .before .before .before .before .checked .given .1)) ∙ c .before .before .before .before .before .before .before .before .before .before .before .before .before .before .before .check .ensures) (held (c .before .before .before .before .before .before .before .before .before .before .before .buffers-long .ensures) (c .before .before .before .before .before .before .before .before .before .before .if1 .left)) (made .0) (made .1 .0) (made .1 .1)
+    plan-written _ _ (ap answerOf (sym (c .before .before .before .before .before .before .before .before .before .before .before .before .before .checked .given .1)) ∙ c .before .before .before .before .before .before .before .before .before .before .before .before .before .before .before .check .ensures) (held (c .before .before .before .before .before .before .before .before .before .before .before .buffers-long .ensures) (c .before .before .before .before .before .before .before .before .before .before .if1 .left)) (made .0) (made .1 .0) (made .1 .1)
 
 returns-3 : tie.Need-returns-3
-returns-3 c = plan-refused _ _ _ _ (ap answerOf (sym (c .before .checked2 .given .1)) ∙ c .before .before .before .check .ensures)
+returns-3 c = plan-refused _ _ (ap answerOf (sym (c .before .checked2 .given .1)) ∙ c .before .before .before .check .ensures)
 
 pub plan-spec : {M : Type 1} → statement M
 plan-spec =
