@@ -12,7 +12,7 @@ use Rattle.laws.proofs.Bools.{both}
 use Rattle.laws.proofs.Fronts.{front-only-past}
 use Rattle.model.specs.File.{countOf}
 use Rattle.model.specs.Rules.{passed, broken, scratchWords}
-use Rattle.model.specs.Calls.{answered, refused, answer, greedyBuffersLong, greedyVerdict, GreedyCall}
+use Rattle.model.specs.Calls.{answered, refused, answer, GreedyMemory, greedyBuffersLong, greedyVerdict, GreedyCall}
 use Rattle.fields.specs.declared.Tree as code
 use Rattle.tree_file.specs.Checks.{sizesOf}
 use Rattle.lent.specs.Lent.{lentVerdict}
@@ -36,37 +36,36 @@ room-still g e =
       nodesLong = g .nodesLong;
     }
 
-module _ (file scratch totals nodes : List ℕ) where
-  refused-whole : {q i : ℕ} → broken q i ≡ greedyVerdict file scratch totals nodes
-      → GreedyCall file scratch totals nodes (broken q i) scratch totals nodes
-  refused-whole e = record { verdict = e; scratchAfter = refl; totalsAfter = refl; takenAfter = refl }
+module _ (file : List ℕ) (memory : GreedyMemory) where
+  refused-whole : {q i : ℕ} → broken q i ≡ greedyVerdict file memory → GreedyCall file memory (broken q i) memory
+  refused-whole e = record { verdict = e; scratchAfter = refl; totalsAfter = refl; nodesAfter = refl }
 
   -- the rules before rule 14 refuse
-  pub greedy-refused : {q i : ℕ} → refused q i ≡ answer (lentVerdict file (length scratch)) (sizesOf file)
-      → GreedyCall file scratch totals nodes (broken q i) scratch totals nodes
+  pub greedy-refused : {q i : ℕ} → refused q i ≡ answer (lentVerdict file (length (memory .scratch))) (sizesOf file)
+      → GreedyCall file memory (broken q i) memory
   unfolding greedyVerdict
-  greedy-refused e = refused-whole (refused-before-buffers file scratch (greedyBuffersLong file totals nodes) e)
+  greedy-refused e = refused-whole (refused-before-buffers file (memory .scratch) (greedyBuffersLong file (memory .totals) (memory .nodes)) e)
 
-  module _ {sizes : code.Tree} (e : answered sizes ≡ answer (lentVerdict file (length scratch)) (sizesOf file)) where
+  module _ {sizes : code.Tree} (e : answered sizes ≡ answer (lentVerdict file (length (memory .scratch))) (sizesOf file)) where
     sizes-are : sizes ≡ sizesOf file
     sizes-are = lent-told file e .2
 
     -- rule 14, as it is asked with the sizes found
     abbrev bothLong : Bool
-    bothLong = leb (suc (sizes .budget)) (length totals) && leb (sizes .budget) (length nodes)
+    bothLong = leb (suc (sizes .budget)) (length (memory .totals)) && leb (sizes .budget) (length (memory .nodes))
 
-    long-is : {b : Bool} → bothLong ≡ b → greedyBuffersLong file totals nodes ≡ b
+    long-is : {b : Bool} → bothLong ≡ b → greedyBuffersLong file (memory .totals) (memory .nodes) ≡ b
     long-is h = rw sizes-are at h
 
-    pub greedy-short : bothLong ≡ false → GreedyCall file scratch totals nodes (broken 14 0) scratch totals nodes
+    pub greedy-short : bothLong ≡ false → GreedyCall file memory (broken 14 0) memory
     unfolding greedyVerdict
-    greedy-short h = refused-whole (buffers-decide file scratch _ e (long-is h))
+    greedy-short h = refused-whole (buffers-decide file (memory .scratch) _ e (long-is h))
 
     module _ (h : bothLong ≡ true) where
-      pub greedy-room : GreedyRoom file (sizes .nodes) (sizes .budget) scratch totals nodes
+      pub greedy-room : GreedyRoom file (sizes .nodes) (sizes .budget) (memory .scratch) (memory .totals) (memory .nodes)
       greedy-room =
           let told = lent-told file e in
-          let fit = both (leb (suc (sizes .budget)) (length totals)) (leb (sizes .budget) (length nodes)) h in
+          let fit = both (leb (suc (sizes .budget)) (length (memory .totals))) (leb (sizes .budget) (length (memory .nodes))) h in
           record {
             room = record {
               accepted = told .0;
@@ -75,18 +74,19 @@ module _ (file scratch totals nodes : List ℕ) where
             };
             budget = ap (λ x. x .budget) sizes-are;
             totalsLong = rw (add-one (sizes .budget)) (leb-true _ _ (fit .0));
-            nodesLong = leb-true (sizes .budget) (length nodes) (fit .1);
+            nodesLong = leb-true (sizes .budget) (length (memory .nodes)) (fit .1);
           }
 
       -- all rules hold
-      pub greedy-written : {scratch′ totals′ nodes′ : List ℕ} → GreedyWritten file (sizes .nodes) scratch totals nodes scratch′ totals′ nodes′
-          → GreedyCall file scratch totals nodes passed scratch′ totals′ nodes′
+      pub greedy-written : {memory′ : GreedyMemory}
+          → GreedyWritten file (sizes .nodes) (memory .scratch) (memory .totals) (memory .nodes) (memory′ .scratch) (memory′ .totals) (memory′ .nodes)
+          → GreedyCall file memory passed memory′
       unfolding greedyVerdict
       greedy-written done =
           record {
-            verdict = buffers-decide file scratch _ e (long-is h);
+            verdict = buffers-decide file (memory .scratch) _ e (long-is h);
             scratchAfter =
                 (done .front .long, front-only-past (nodeWords * sizes .nodes) (scratchWords file) (rw sizes-are (nodes-fit file)) (done .front));
             totalsAfter = done .totalsAfter;
-            takenAfter = done .nodesAfter;
+            nodesAfter = done .nodesAfter;
           }

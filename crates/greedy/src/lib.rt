@@ -276,7 +276,7 @@ pub fn buffers_long(k: usize, totals: usize, nodes: usize) -> bool
 
 // Rules 1 to 11, 13 and 14, then the greedy rule; nothing is written before they all hold.
 pub fn greedy(file: &[u8], scratch: &mut [u64], totals: &mut [u64], nodes: &mut [u16]) -> Ruling
-    ensures { λ r. ⌜ GreedyCall (now (file .entry)) (now (scratch .entry)) (now (totals .entry)) (now (nodes .entry)) (verdictOf r) (now (scratch .exit)) (now (totals .exit)) (now (nodes .exit)) ⌝ }
+    ensures { λ r. ⌜ GreedyCall (now (file .entry)) record { scratch = now (scratch .entry); totals = now (totals .entry); nodes = now (nodes .entry) } (verdictOf r) record { scratch = now (scratch .exit); totals = now (totals .exit); nodes = now (nodes .exit) } ⌝ }
 {
     let checked = lent::check(file, scratch.len());
     match checked {

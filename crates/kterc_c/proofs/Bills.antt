@@ -8,8 +8,8 @@ use borrow.Author.Tests.{le-leb, lt-leb}
 use Rattle.laws.proofs.Stores.{sets-front}
 use Rattle.model.specs.File.{treeOf, countOf}
 use Rattle.model.specs.Rules.{Verdict, passed, broken, ask, _then_, fileVerdict, ascends, isSet, askSet}
-use Rattle.model.specs.Calls.{answered, refused, after, billVerdict, BillCall}
-use Rattle.model.specs.Hosts.{hostBillVerdict, HostBillCall}
+use Rattle.model.specs.Calls.{answered, refused, after, BillMemory, billVerdict, BillCall}
+use Rattle.model.specs.Hosts.{HostBillMemory, hostBillVerdict, HostBillCall}
 use Rattle.model.proofs.Verdicts.{answered-passed, refused-broken}
 
 -- a verdict that ends in a refusal is one
@@ -30,30 +30,34 @@ module _ (file k : List ℕ) (rest : Verdict) where
 
 -- ---- the call
 
-module _ (file k totals servings loads : List ℕ) where
+module _ (file k : List ℕ) (memory : HostBillMemory) where
   -- no room for the total
-  pub bill-no-room : {v : Verdict} → v ≡ (fileVerdict file then askSet file k then broken 14 0) → length totals < 1
-      → HostBillCall file k totals servings loads v totals servings loads
+  pub bill-no-room : {v : Verdict} → v ≡ (fileVerdict file then askSet file k then broken 14 0) → length (memory .totals) < 1
+      → HostBillCall file k memory v memory
   unfolding hostBillVerdict
   bill-no-room e h =
       rw e
       record {
-        verdict = rw (lt-leb 1 (length totals) h);
-        totalsAfter = refusal-stays (fileVerdict file) (askSet file k) 14 0 _ totals;
-        servingsAfter = refusal-stays (fileVerdict file) (askSet file k) 14 0 _ servings;
-        loadsAfter = refusal-stays (fileVerdict file) (askSet file k) 14 0 _ loads;
+        verdict = rw (lt-leb 1 (length (memory .totals)) h);
+        totalsAfter = refusal-stays (fileVerdict file) (askSet file k) 14 0 _ (memory .totals);
+        servingsAfter = refusal-stays (fileVerdict file) (askSet file k) 14 0 _ (memory .servings);
+        loadsAfter = refusal-stays (fileVerdict file) (askSet file k) 14 0 _ (memory .loads);
       }
 
-  module _ (room : 1 ≤ length totals) where
-    -- with room for it the questions are those of the bill
-    same-questions : hostBillVerdict file k totals servings loads ≡ billVerdict file k servings loads
-    unfolding hostBillVerdict billVerdict
-    same-questions = rw (le-leb 1 (length totals) room)
+  -- what the bill is lent
+  abbrev buffers : BillMemory
+  buffers = record { servings = memory .servings; loads = memory .loads }
 
-    pub bill-refused : {q i : ℕ} {servings′ loads′ : List ℕ} → BillCall file k servings loads (refused q i) servings′ loads′
-        → HostBillCall file k totals servings loads (broken q i) totals servings′ loads′
+  module _ (room : 1 ≤ length (memory .totals)) where
+    -- with room for the total the questions are those of the bill
+    same-questions : hostBillVerdict file k memory ≡ billVerdict file k buffers
+    unfolding hostBillVerdict billVerdict
+    same-questions = rw (le-leb 1 (length (memory .totals)) room)
+
+    pub bill-refused : {q i : ℕ} {left : BillMemory} → BillCall file k buffers (refused q i) left
+        → HostBillCall file k memory (broken q i) record { totals = memory .totals; servings = left .servings; loads = left .loads }
     bill-refused call =
-        let e = refused-broken (billVerdict file k servings loads) _ (call .answers) in
+        let e = refused-broken (billVerdict file k buffers) _ (call .answers) in
         record {
           verdict = sym (same-questions ∙ e);
           totalsAfter = refl;
@@ -61,13 +65,13 @@ module _ (file k totals servings loads : List ℕ) where
           loadsAfter = rw e at (call .loadsAfter);
         }
 
-    pub bill-billed : {x : ℕ} {servings′ loads′ : List ℕ} → BillCall file k servings loads (answered x) servings′ loads′
-        → HostBillCall file k totals servings loads passed (set totals 0 x) servings′ loads′
+    pub bill-billed : {x : ℕ} {left : BillMemory} → BillCall file k buffers (answered x) left
+        → HostBillCall file k memory passed record { totals = set (memory .totals) 0 x; servings = left .servings; loads = left .loads }
     bill-billed {x} call =
-        let told = answered-passed (billVerdict file k servings loads) _ (call .answers) in
+        let told = answered-passed (billVerdict file k buffers) _ (call .answers) in
         record {
           verdict = sym (same-questions ∙ told .0);
-          totalsAfter = sets-front totals (x ∷ []) room ∙ ap (λ y. (y ∷ []) ++ drop 1 totals) (told .1);
+          totalsAfter = sets-front (memory .totals) (x ∷ []) room ∙ ap (λ y. (y ∷ []) ++ drop 1 (memory .totals)) (told .1);
           servingsAfter = rw (told .0) at (call .servingsAfter);
           loadsAfter = rw (told .0) at (call .loadsAfter);
         }

@@ -3,31 +3,27 @@ use mathlib.Core.Path.{_≡_, ap, _∙_}
 use mathlib.Core.List.{List}
 use Prim.Native.Nat.{ℕ}
 use Rattle.model.specs.Rules.{Verdict}
-use Rattle.model.specs.Calls.{planVerdict, PlanCall, greedyVerdict, GreedyCall}
-use Rattle.model.specs.Report.{reportVerdict, ReportCall}
-use Rattle.model.specs.Hosts.{codeOf, hostBillVerdict, HostBillCall}
+use Rattle.model.specs.Calls.{PlanMemory, planVerdict, PlanCall, GreedyMemory, greedyVerdict, GreedyCall}
+use Rattle.model.specs.Report.{ReportMemory, reportVerdict, ReportCall}
+use Rattle.model.specs.Hosts.{codeOf, HostBillMemory, hostBillVerdict, HostBillCall}
 
 -- the code tells the verdict, and the call holds with it
 abbrev Told : (Verdict → Type 0) → ℕ → Verdict → Type 0
 Told Call code v = (code ≡ codeOf v) × Call v
 
-module _ {code : ℕ} {v : Verdict} (told : code ≡ codeOf v) where
-  pub bill-told : {file k totals servings loads totals′ servings′ loads′ : List ℕ}
-      → HostBillCall file k totals servings loads v totals′ servings′ loads′
-      → Told (λ x. HostBillCall file k totals servings loads x totals′ servings′ loads′) code (hostBillVerdict file k totals servings loads)
+module _ {code : ℕ} {v : Verdict} (told : code ≡ codeOf v) {file : List ℕ} where
+  pub bill-told : {k : List ℕ} {memory memory′ : HostBillMemory} → HostBillCall file k memory v memory′
+      → Told (λ x. HostBillCall file k memory x memory′) code (hostBillVerdict file k memory)
   bill-told call = (told ∙ ap codeOf (call .verdict), rw (call .verdict) at call)
 
-  pub plan-told : {file scratch totals rows scratch′ totals′ rows′ : List ℕ}
-      → PlanCall file scratch totals rows v scratch′ totals′ rows′
-      → Told (λ x. PlanCall file scratch totals rows x scratch′ totals′ rows′) code (planVerdict file scratch totals rows)
+  pub plan-told : {memory memory′ : PlanMemory} → PlanCall file memory v memory′
+      → Told (λ x. PlanCall file memory x memory′) code (planVerdict file memory)
   plan-told call = (told ∙ ap codeOf (call .verdict), rw (call .verdict) at call)
 
-  pub greedy-told : {file scratch totals taken scratch′ totals′ taken′ : List ℕ}
-      → GreedyCall file scratch totals taken v scratch′ totals′ taken′
-      → Told (λ x. GreedyCall file scratch totals taken x scratch′ totals′ taken′) code (greedyVerdict file scratch totals taken)
+  pub greedy-told : {memory memory′ : GreedyMemory} → GreedyCall file memory v memory′
+      → Told (λ x. GreedyCall file memory x memory′) code (greedyVerdict file memory)
   greedy-told call = (told ∙ ap codeOf (call .verdict), rw (call .verdict) at call)
 
-  pub report-told : {file scratch totals rows greedys taken scratch′ totals′ rows′ greedys′ taken′ : List ℕ}
-      → ReportCall file scratch totals rows greedys taken v scratch′ totals′ rows′ greedys′ taken′
-      → Told (λ x. ReportCall file scratch totals rows greedys taken x scratch′ totals′ rows′ greedys′ taken′) code (reportVerdict file scratch totals rows greedys taken)
+  pub report-told : {memory memory′ : ReportMemory} → ReportCall file memory v memory′
+      → Told (λ x. ReportCall file memory x memory′) code (reportVerdict file memory)
   report-told call = (told ∙ ap codeOf (call .verdict), rw (call .verdict) at call)

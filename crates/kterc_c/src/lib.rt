@@ -1,9 +1,9 @@
 // The calls for hosts in C, as include/kterc.h declares them: each slice is a pointer and a length.
 ghost use mathlib.Core.Path.{_≡_};
 ghost use Rattle.model.specs.Rules.{broken, _then_, fileVerdict, askSet};
-ghost use Rattle.model.specs.Calls.{checkNumber, planVerdict, PlanCall, greedyVerdict, GreedyCall};
-ghost use Rattle.model.specs.Report.{reportVerdict, ReportCall};
-ghost use Rattle.model.specs.Hosts.{codeOf, wordsAsked, hostBillVerdict, HostBillCall};
+ghost use Rattle.model.specs.Calls.{checkNumber, PlanMemory, planVerdict, PlanCall, GreedyMemory, greedyVerdict, GreedyCall};
+ghost use Rattle.model.specs.Report.{ReportMemory, reportVerdict, ReportCall};
+ghost use Rattle.model.specs.Hosts.{codeOf, wordsAsked, HostBillMemory, hostBillVerdict, HostBillCall};
 ghost use Rattle.tree_file.specs.Checks.{verdictOf};
 use placement::Billed;
 use tree_file::Ruling;
@@ -61,7 +61,7 @@ fn bill(
     serving: &mut [u16],
     loads: &mut [u64],
 ) -> Ruling
-    ensures { λ r. ⌜ HostBillCall (now (file .entry)) (now (set .entry)) (now (total .entry)) (now (serving .entry)) (now (loads .entry)) (verdictOf r) (now (total .exit)) (now (serving .exit)) (now (loads .exit)) ⌝ }
+    ensures { λ r. ⌜ HostBillCall (now (file .entry)) (now (set .entry)) record { totals = now (total .entry); servings = now (serving .entry); loads = now (loads .entry) } (verdictOf r) record { totals = now (total .exit); servings = now (serving .exit); loads = now (loads .exit) } ⌝ }
 {
     if total.len() < 1 {
         return no_room(file, set);
@@ -85,8 +85,8 @@ pub extern "C" fn kterc_bill(
     serving: &mut [u16],
     loads: &mut [u64],
 ) -> u32
-    ensures { λ r. ⌜ r ≡ codeOf (hostBillVerdict (now (file .entry)) (now (set .entry)) (now (total .entry)) (now (serving .entry)) (now (loads .entry))) ⌝ }
-    ensures { λ _. ⌜ HostBillCall (now (file .entry)) (now (set .entry)) (now (total .entry)) (now (serving .entry)) (now (loads .entry)) (hostBillVerdict (now (file .entry)) (now (set .entry)) (now (total .entry)) (now (serving .entry)) (now (loads .entry))) (now (total .exit)) (now (serving .exit)) (now (loads .exit)) ⌝ }
+    ensures { λ r. ⌜ r ≡ codeOf (hostBillVerdict (now (file .entry)) (now (set .entry)) record { totals = now (total .entry); servings = now (serving .entry); loads = now (loads .entry) }) ⌝ }
+    ensures { λ _. ⌜ (let lent : HostBillMemory = record { totals = now (total .entry); servings = now (serving .entry); loads = now (loads .entry) } in HostBillCall (now (file .entry)) (now (set .entry)) lent (hostBillVerdict (now (file .entry)) (now (set .entry)) lent) record { totals = now (total .exit); servings = now (serving .exit); loads = now (loads .exit) }) ⌝ }
 {
     code_of(bill(file, set, total, serving, loads))
 }
@@ -99,8 +99,8 @@ pub extern "C" fn kterc_plan(
     totals: &mut [u64],
     rows: &mut [u16],
 ) -> u32
-    ensures { λ r. ⌜ r ≡ codeOf (planVerdict (now (file .entry)) (now (scratch .entry)) (now (totals .entry)) (now (rows .entry))) ⌝ }
-    ensures { λ _. ⌜ PlanCall (now (file .entry)) (now (scratch .entry)) (now (totals .entry)) (now (rows .entry)) (planVerdict (now (file .entry)) (now (scratch .entry)) (now (totals .entry)) (now (rows .entry))) (now (scratch .exit)) (now (totals .exit)) (now (rows .exit)) ⌝ }
+    ensures { λ r. ⌜ r ≡ codeOf (planVerdict (now (file .entry)) record { scratch = now (scratch .entry); totals = now (totals .entry); rows = now (rows .entry) }) ⌝ }
+    ensures { λ _. ⌜ (let lent : PlanMemory = record { scratch = now (scratch .entry); totals = now (totals .entry); rows = now (rows .entry) } in PlanCall (now (file .entry)) lent (planVerdict (now (file .entry)) lent) record { scratch = now (scratch .exit); totals = now (totals .exit); rows = now (rows .exit) }) ⌝ }
 {
     code_of(optimum::plan(file, scratch, totals, rows))
 }
@@ -113,8 +113,8 @@ pub extern "C" fn kterc_greedy(
     totals: &mut [u64],
     nodes: &mut [u16],
 ) -> u32
-    ensures { λ r. ⌜ r ≡ codeOf (greedyVerdict (now (file .entry)) (now (scratch .entry)) (now (totals .entry)) (now (nodes .entry))) ⌝ }
-    ensures { λ _. ⌜ GreedyCall (now (file .entry)) (now (scratch .entry)) (now (totals .entry)) (now (nodes .entry)) (greedyVerdict (now (file .entry)) (now (scratch .entry)) (now (totals .entry)) (now (nodes .entry))) (now (scratch .exit)) (now (totals .exit)) (now (nodes .exit)) ⌝ }
+    ensures { λ r. ⌜ r ≡ codeOf (greedyVerdict (now (file .entry)) record { scratch = now (scratch .entry); totals = now (totals .entry); nodes = now (nodes .entry) }) ⌝ }
+    ensures { λ _. ⌜ (let lent : GreedyMemory = record { scratch = now (scratch .entry); totals = now (totals .entry); nodes = now (nodes .entry) } in GreedyCall (now (file .entry)) lent (greedyVerdict (now (file .entry)) lent) record { scratch = now (scratch .exit); totals = now (totals .exit); nodes = now (nodes .exit) }) ⌝ }
 {
     code_of(greedy::greedy(file, scratch, totals, nodes))
 }
@@ -126,11 +126,11 @@ pub extern "C" fn kterc_report(
     scratch: &mut [u64],
     totals: &mut [u64],
     rows: &mut [u16],
-    greedys: &mut [u64],
-    taken: &mut [u16],
+    greedy_totals: &mut [u64],
+    greedy_nodes: &mut [u16],
 ) -> u32
-    ensures { λ r. ⌜ r ≡ codeOf (reportVerdict (now (file .entry)) (now (scratch .entry)) (now (totals .entry)) (now (rows .entry)) (now (greedys .entry)) (now (taken .entry))) ⌝ }
-    ensures { λ _. ⌜ ReportCall (now (file .entry)) (now (scratch .entry)) (now (totals .entry)) (now (rows .entry)) (now (greedys .entry)) (now (taken .entry)) (reportVerdict (now (file .entry)) (now (scratch .entry)) (now (totals .entry)) (now (rows .entry)) (now (greedys .entry)) (now (taken .entry))) (now (scratch .exit)) (now (totals .exit)) (now (rows .exit)) (now (greedys .exit)) (now (taken .exit)) ⌝ }
+    ensures { λ r. ⌜ r ≡ codeOf (reportVerdict (now (file .entry)) record { scratch = now (scratch .entry); planTotals = now (totals .entry); planRows = now (rows .entry); greedyTotals = now («greedy_totals» .entry); greedyNodes = now («greedy_nodes» .entry) }) ⌝ }
+    ensures { λ _. ⌜ (let lent : ReportMemory = record { scratch = now (scratch .entry); planTotals = now (totals .entry); planRows = now (rows .entry); greedyTotals = now («greedy_totals» .entry); greedyNodes = now («greedy_nodes» .entry) } in ReportCall (now (file .entry)) lent (reportVerdict (now (file .entry)) lent) record { scratch = now (scratch .exit); planTotals = now (totals .exit); planRows = now (rows .exit); greedyTotals = now («greedy_totals» .exit); greedyNodes = now («greedy_nodes» .exit) }) ⌝ }
 {
-    code_of(report::report(file, scratch, totals, rows, greedys, taken))
+    code_of(report::report(file, scratch, totals, rows, greedy_totals, greedy_nodes))
 }

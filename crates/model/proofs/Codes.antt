@@ -9,9 +9,9 @@ use borrow.Author.Tests.{ltb-true}
 use Rattle.laws.proofs.Bools.{both}
 use Rattle.model.specs.File.{Tree, Demand}
 use Rattle.model.specs.Rules.{Verdict, passed, broken, ask, _then_, recordVerdict, recordsVerdict, fileVerdict}
-use Rattle.model.specs.Calls.{planVerdict, greedyVerdict}
-use Rattle.model.specs.Report.{reportVerdict}
-use Rattle.model.specs.Hosts.{codeUnit, codeOf, hostBillVerdict}
+use Rattle.model.specs.Calls.{PlanMemory, planVerdict, GreedyMemory, greedyVerdict}
+use Rattle.model.specs.Report.{ReportMemory, reportVerdict}
+use Rattle.model.specs.Hosts.{codeUnit, codeOf, HostBillMemory, hostBillVerdict}
 use Rattle.model.specs.Laws.{isByte, Numbered}
 use Rattle.model.proofs.Verdicts.{broken≢passed}
 
@@ -48,18 +48,18 @@ file-numbered file = search (both-numbered, ask-numbered, records-numbered) dept
 -- ---- the calls
 
 module _ (file : List ℕ) where
-  pub bill-numbered : (k totals servings loads : List ℕ) → Numbered (hostBillVerdict file k totals servings loads)
+  pub bill-numbered : (k : List ℕ) (memory : HostBillMemory) → Numbered (hostBillVerdict file k memory)
   unfolding hostBillVerdict
-  bill-numbered k totals servings loads = search (both-numbered, ask-numbered, file-numbered)
+  bill-numbered k memory = search (both-numbered, ask-numbered, file-numbered)
 
-  pub plan-numbered : (scratch totals rows : List ℕ) → Numbered (planVerdict file scratch totals rows)
+  pub plan-numbered : (memory : PlanMemory) → Numbered (planVerdict file memory)
   unfolding planVerdict
-  plan-numbered scratch totals rows = search (both-numbered, ask-numbered, file-numbered)
+  plan-numbered memory = search (both-numbered, ask-numbered, file-numbered)
 
-  pub greedy-numbered : (scratch totals taken : List ℕ) → Numbered (greedyVerdict file scratch totals taken)
+  pub greedy-numbered : (memory : GreedyMemory) → Numbered (greedyVerdict file memory)
   unfolding greedyVerdict
-  greedy-numbered scratch totals taken = search (both-numbered, ask-numbered, file-numbered)
+  greedy-numbered memory = search (both-numbered, ask-numbered, file-numbered)
 
-  pub report-numbered : (scratch totals rows greedys taken : List ℕ) → Numbered (reportVerdict file scratch totals rows greedys taken)
+  pub report-numbered : (memory : ReportMemory) → Numbered (reportVerdict file memory)
   unfolding reportVerdict
-  report-numbered scratch totals rows greedys taken = search (both-numbered, ask-numbered, file-numbered)
+  report-numbered memory = search (both-numbered, ask-numbered, file-numbered)

@@ -1,6 +1,6 @@
 -- The report call passes just where demand 3 asks it to, and a report with the plan's and the greedy rule's answers meets it.
 use mathlib.Core.Path.{_≡_, refl, sym, ap, _∙_}
-use mathlib.Core.Bool.{true, not, _&&_}
+use mathlib.Core.Bool.{true, not}
 use mathlib.Core.Logic.{_↔_}
 use mathlib.Core.List.{List, [], _∷_, _++_, map}
 use Prim.Native.Nat.{ℕ, suc, _-_, _≤_}
@@ -16,8 +16,8 @@ use Rattle.model.specs.File.{Tree, Demand, treeOf, demandOf, budgetOf}
 use Rattle.model.specs.Rules.{passed, isPassed, fileVerdict, accepted, ascends, enoughScratch, askScratch}
 use Rattle.model.specs.Plan.{plan, planTotal, row}
 use Rattle.model.specs.Greedy.{greedyTotal}
-use Rattle.model.specs.Calls.{after, budgets, planTotals, planRows, planBuffersLong, greedyTotals, greedyBuffersLong}
-use Rattle.model.specs.Report.{HoldsOptimum, setOfRow, DemandThree, reportVerdict}
+use Rattle.model.specs.Calls.{after, budgets, planTotals, planRows, greedyTotals}
+use Rattle.model.specs.Report.{HoldsOptimum, setOfRow, ReportMemory, DemandThree, reportBuffersLong, reportVerdict}
 use Rattle.model.specs.Accepted.{Sound}
 use Rattle.model.proofs.Verdicts.{ask-passed, then-passed, is-passed}
 use Rattle.model.proofs.Accepted.{accepted-sound}
@@ -83,21 +83,23 @@ module _ (file : List ℕ) where
   holds-greedy-total = holds-entry (greedyTotal t d)
 
   -- whatever the buffers held
-  pub report-meets-demand : fileVerdict file ≡ passed → (totals rows greedys : List ℕ)
-      → DemandThree file (after passed (planTotals file) totals) (after passed (planRows file) rows) (after passed (greedyTotals file) greedys)
-  report-meets-demand e totals rows greedys b h =
-      rw (row-holds-plan _ b h, holds-plan-total _ b h, holds-greedy-total _ b h) (plan-holds-optimum t d (accepted-sound file e) b)
+  pub report-meets-demand : fileVerdict file ≡ passed → (memory report : ReportMemory)
+      → report .planTotals ≡ after passed (planTotals file) (memory .planTotals)
+      → report .planRows ≡ after passed (planRows file) (memory .planRows)
+      → report .greedyTotals ≡ after passed (greedyTotals file) (memory .greedyTotals)
+      → DemandThree file report
+  report-meets-demand e memory report totals rows greedy b h =
+      rw (totals, rows, greedy, row-holds-plan _ b h, holds-plan-total _ b h, holds-greedy-total _ b h) (plan-holds-optimum t d (accepted-sound file e) b)
 
 -- ---- "any accepted file with enough scratch and buffers"
 
-pub report-passes : (file scratch totals rows greedys taken : List ℕ) → reportVerdict file scratch totals rows greedys taken ≡ passed
-    ↔ ((accepted file ≡ true) × (enoughScratch file scratch ≡ true)
-    × ((planBuffersLong file totals rows && greedyBuffersLong file greedys taken) ≡ true))
+pub report-passes : (file : List ℕ) (memory : ReportMemory) → reportVerdict file memory ≡ passed
+    ↔ ((accepted file ≡ true) × (enoughScratch file (memory .scratch) ≡ true) × (reportBuffersLong file memory ≡ true))
 unfolding reportVerdict accepted
-report-passes file scratch totals rows greedys taken = (
+report-passes file memory = (
   λ e.
       let a = then-passed (fileVerdict file) _ e in
-      let b = then-passed (askScratch file scratch) _ (a .1) in
+      let b = then-passed (askScratch file (memory .scratch)) _ (a .1) in
       (ap isPassed (a .0), ask-passed 13 0 _ (b .0), ask-passed 14 0 _ (b .1)),
   λ h. rw (is-passed (fileVerdict file) (h .0), h .1, h .2),
 )

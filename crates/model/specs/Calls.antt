@@ -1,5 +1,5 @@
 -- Document 01, call by call: the order of the rules, the answer, and each buffer after the call, for all arguments.
--- A name with a prime is a buffer as the call leaves it.
+-- The memory that a call may change is one record, a field for each buffer. A name with a prime is what the call leaves.
 use mathlib.Core.Path.{_≡_}
 use mathlib.Core.Bool.{Bool, cond, _&&_}
 use mathlib.Core.List.{List, [], _++_, map, flatMap}
@@ -54,12 +54,18 @@ recordBytes file v = cond (accepted file && ltb v (countOf file)) (part file (re
 
 -- ---- the bill of a set
 
+-- what is lent to the bill call
+pub record BillMemory : Type 0 where
+  pub servings : List ℕ
+  pub loads : List ℕ
+
 -- "Buffers: n entries each"
 abbrev pub billBuffersLong : List ℕ → List ℕ → List ℕ → Bool
 billBuffersLong file servings loads = longEnough (countOf file) servings && longEnough (countOf file) loads
 
-unfoldable pub billVerdict : List ℕ → List ℕ → List ℕ → List ℕ → Verdict
-billVerdict file set servings loads = fileVerdict file then askSet file set then askBuffers (billBuffersLong file servings loads)
+unfoldable pub billVerdict : List ℕ → List ℕ → BillMemory → Verdict
+billVerdict file set memory =
+    fileVerdict file then askSet file set then askBuffers (billBuffersLong file (memory .servings) (memory .loads))
 
 abbrev pub servingNodes : List ℕ → List ℕ → List ℕ
 servingNodes file set = map (serving (treeOf file) set) (nodes (treeOf file))
@@ -68,10 +74,10 @@ abbrev pub linkLoads : List ℕ → List ℕ → List ℕ
 linkLoads file set = map (linkLoad (treeOf file) (demandOf file) set) (nodes (treeOf file))
 
 -- what the bill call owes for all arguments
-pub record BillCall (file set servings loads : List ℕ) (a : Answer ℕ) (servings′ loads′ : List ℕ) : Type 0 where
-  pub answers : a ≡ answer (billVerdict file set servings loads) (total (treeOf file) (demandOf file) set)
-  pub servingsAfter : servings′ ≡ after (billVerdict file set servings loads) (servingNodes file set) servings
-  pub loadsAfter : loads′ ≡ after (billVerdict file set servings loads) (linkLoads file set) loads
+pub record BillCall (file set : List ℕ) (memory : BillMemory) (a : Answer ℕ) (memory′ : BillMemory) : Type 0 where
+  pub answers : a ≡ answer (billVerdict file set memory) (total (treeOf file) (demandOf file) set)
+  pub servingsAfter : memory′ .servings ≡ after (billVerdict file set memory) (servingNodes file set) (memory .servings)
+  pub loadsAfter : memory′ .loads ≡ after (billVerdict file set memory) (linkLoads file set) (memory .loads)
 
 -- ---- the ranking of two sets, and the one that ranks first
 
@@ -106,18 +112,27 @@ planTotals file = map (planTotal (treeOf file) (demandOf file)) (budgets file)
 unfoldable pub planRows : List ℕ → List ℕ
 planRows file = flatMap (λ b. row (budgetOf file) (plan (treeOf file) (demandOf file) b)) (budgets file)
 
+-- what is lent to the plan call
+pub record PlanMemory : Type 0 where
+  pub scratch : List ℕ
+  pub totals : List ℕ
+  pub rows : List ℕ
+
 abbrev pub planBuffersLong : List ℕ → List ℕ → List ℕ → Bool
 planBuffersLong file totals rows = longEnough (suc (budgetOf file)) totals && longEnough (suc (budgetOf file) * budgetOf file) rows
 
-unfoldable pub planVerdict : List ℕ → List ℕ → List ℕ → List ℕ → Verdict
-planVerdict file scratch totals rows = fileVerdict file then askScratch file scratch then askBuffers (planBuffersLong file totals rows)
+unfoldable pub planVerdict : List ℕ → PlanMemory → Verdict
+planVerdict file memory =
+    fileVerdict file
+    then askScratch file (memory .scratch)
+    then askBuffers (planBuffersLong file (memory .totals) (memory .rows))
 
 -- what the plan call owes for all arguments
-pub record PlanCall (file scratch totals rows : List ℕ) (v : Verdict) (scratch′ totals′ rows′ : List ℕ) : Type 0 where
-  pub verdict : v ≡ planVerdict file scratch totals rows
-  pub scratchAfter : ScratchAfter v file scratch scratch′
-  pub totalsAfter : totals′ ≡ after v (planTotals file) totals
-  pub rowsAfter : rows′ ≡ after v (planRows file) rows
+pub record PlanCall (file : List ℕ) (memory : PlanMemory) (v : Verdict) (memory′ : PlanMemory) : Type 0 where
+  pub verdict : v ≡ planVerdict file memory
+  pub scratchAfter : ScratchAfter v file (memory .scratch) (memory′ .scratch)
+  pub totalsAfter : memory′ .totals ≡ after v (planTotals file) (memory .totals)
+  pub rowsAfter : memory′ .rows ≡ after v (planRows file) (memory .rows)
 
 -- ---- the greedy rule: k + 1 totals, and k nodes in the order taken
 
@@ -127,16 +142,24 @@ greedyTotals file = map (greedyTotal (treeOf file) (demandOf file)) (budgets fil
 unfoldable pub greedyRow : List ℕ → List ℕ
 greedyRow file = row (budgetOf file) (greedyNodes (treeOf file) (demandOf file) (budgetOf file))
 
-abbrev pub greedyBuffersLong : List ℕ → List ℕ → List ℕ → Bool
-greedyBuffersLong file totals taken = longEnough (suc (budgetOf file)) totals && longEnough (budgetOf file) taken
+-- what is lent to the greedy call
+pub record GreedyMemory : Type 0 where
+  pub scratch : List ℕ
+  pub totals : List ℕ
+  pub nodes : List ℕ
 
-unfoldable pub greedyVerdict : List ℕ → List ℕ → List ℕ → List ℕ → Verdict
-greedyVerdict file scratch totals taken =
-    fileVerdict file then askScratch file scratch then askBuffers (greedyBuffersLong file totals taken)
+abbrev pub greedyBuffersLong : List ℕ → List ℕ → List ℕ → Bool
+greedyBuffersLong file totals nodes = longEnough (suc (budgetOf file)) totals && longEnough (budgetOf file) nodes
+
+unfoldable pub greedyVerdict : List ℕ → GreedyMemory → Verdict
+greedyVerdict file memory =
+    fileVerdict file
+    then askScratch file (memory .scratch)
+    then askBuffers (greedyBuffersLong file (memory .totals) (memory .nodes))
 
 -- what the greedy call owes for all arguments
-pub record GreedyCall (file scratch totals taken : List ℕ) (v : Verdict) (scratch′ totals′ taken′ : List ℕ) : Type 0 where
-  pub verdict : v ≡ greedyVerdict file scratch totals taken
-  pub scratchAfter : ScratchAfter v file scratch scratch′
-  pub totalsAfter : totals′ ≡ after v (greedyTotals file) totals
-  pub takenAfter : taken′ ≡ after v (greedyRow file) taken
+pub record GreedyCall (file : List ℕ) (memory : GreedyMemory) (v : Verdict) (memory′ : GreedyMemory) : Type 0 where
+  pub verdict : v ≡ greedyVerdict file memory
+  pub scratchAfter : ScratchAfter v file (memory .scratch) (memory′ .scratch)
+  pub totalsAfter : memory′ .totals ≡ after v (greedyTotals file) (memory .totals)
+  pub nodesAfter : memory′ .nodes ≡ after v (greedyRow file) (memory .nodes)

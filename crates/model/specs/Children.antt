@@ -1,4 +1,4 @@
--- The load above a node is told by its children and by relieved flows: both words.
+-- What the load above a node is made of: the loads above its children, and what a cache leaves of a flow.
 use mathlib.Core.Bool.{Bool}
 use Prim.Native.Nat.{ℕ, _*_, _-_}
 use lib.Dec.{eqb}

@@ -23,13 +23,21 @@ wordsAsked file = cond (accepted file) (scratchWords file) 0
 
 -- ---- the bill: its total goes to a buffer of one entry, which joins question 14
 
-unfoldable pub hostBillVerdict : List ℕ → List ℕ → List ℕ → List ℕ → List ℕ → Verdict
-hostBillVerdict file set totals servings loads =
-    fileVerdict file then askSet file set then askBuffers (longEnough 1 totals && billBuffersLong file servings loads)
+-- what a host lends to the bill call
+pub record HostBillMemory : Type 0 where
+  pub totals : List ℕ
+  pub servings : List ℕ
+  pub loads : List ℕ
+
+unfoldable pub hostBillVerdict : List ℕ → List ℕ → HostBillMemory → Verdict
+hostBillVerdict file set memory =
+    fileVerdict file
+    then askSet file set
+    then askBuffers (longEnough 1 (memory .totals) && billBuffersLong file (memory .servings) (memory .loads))
 
 -- what the bill call of a host owes for all arguments
-pub record HostBillCall (file set totals servings loads : List ℕ) (v : Verdict) (totals′ servings′ loads′ : List ℕ) : Type 0 where
-  pub verdict : v ≡ hostBillVerdict file set totals servings loads
-  pub totalsAfter : totals′ ≡ after v (total (treeOf file) (demandOf file) set ∷ []) totals
-  pub servingsAfter : servings′ ≡ after v (servingNodes file set) servings
-  pub loadsAfter : loads′ ≡ after v (linkLoads file set) loads
+pub record HostBillCall (file set : List ℕ) (memory : HostBillMemory) (v : Verdict) (memory′ : HostBillMemory) : Type 0 where
+  pub verdict : v ≡ hostBillVerdict file set memory
+  pub totalsAfter : memory′ .totals ≡ after v (total (treeOf file) (demandOf file) set ∷ []) (memory .totals)
+  pub servingsAfter : memory′ .servings ≡ after v (servingNodes file set) (memory .servings)
+  pub loadsAfter : memory′ .loads ≡ after v (linkLoads file set) (memory .loads)

@@ -39,29 +39,40 @@ pub record HoldsOptimum (t : Tree) (d : Demand) (b : ℕ) (held : List ℕ) (pla
 unfoldable pub setOfRow : ℕ → List ℕ → ℕ → List ℕ
 setOfRow k rows b = those (λ v. not (eqb v 0)) (part rows (b * k) k)
 
--- demand 3, of a report's plan totals, plan rows and greedy totals: "total b and row b, counted from 0, belong to budget b"
-abbrev pub DemandThree : List ℕ → List ℕ → List ℕ → List ℕ → Type 0
-DemandThree file totals rows greedys =
+-- what is lent to the report call: the scratch, and the buffers for both answers
+pub record ReportMemory : Type 0 where
+  pub scratch : List ℕ
+  pub planTotals : List ℕ
+  pub planRows : List ℕ
+  pub greedyTotals : List ℕ
+  pub greedyNodes : List ℕ
+
+-- demand 3, of a report as memory holds it: "total b and row b, counted from 0, belong to budget b"
+abbrev pub DemandThree : List ℕ → ReportMemory → Type 0
+DemandThree file report =
     (b : ℕ) → b ≤ budgetOf file
-    → HoldsOptimum (treeOf file) (demandOf file) b (setOfRow (budgetOf file) rows b) (getD totals b 0) (getD greedys b 0)
+    → HoldsOptimum (treeOf file) (demandOf file) b (setOfRow (budgetOf file) (report .planRows) b) (getD (report .planTotals) b 0) (getD (report .greedyTotals) b 0)
 
 -- ---- the report call: the plan's and the greedy rule's answers together
 
-unfoldable pub reportVerdict : List ℕ → List ℕ → List ℕ → List ℕ → List ℕ → List ℕ → Verdict
-reportVerdict file scratch totals rows greedys taken =
-    fileVerdict file
-    then askScratch file scratch
-    then askBuffers (planBuffersLong file totals rows && greedyBuffersLong file greedys taken)
+abbrev pub reportBuffersLong : List ℕ → ReportMemory → Bool
+reportBuffersLong file memory =
+    planBuffersLong file (memory .planTotals) (memory .planRows)
+    && greedyBuffersLong file (memory .greedyTotals) (memory .greedyNodes)
+
+unfoldable pub reportVerdict : List ℕ → ReportMemory → Verdict
+reportVerdict file memory =
+    fileVerdict file then askScratch file (memory .scratch) then askBuffers (reportBuffersLong file memory)
 
 -- what the report call owes for all arguments
-pub record ReportCall (file scratch totals rows greedys taken : List ℕ) (v : Verdict) (scratch′ totals′ rows′ greedys′ taken′ : List ℕ) : Type 0 where
-  pub verdict : v ≡ reportVerdict file scratch totals rows greedys taken
-  pub scratchAfter : ScratchAfter v file scratch scratch′
-  pub totalsAfter : totals′ ≡ after v (planTotals file) totals
-  pub rowsAfter : rows′ ≡ after v (planRows file) rows
-  pub greedysAfter : greedys′ ≡ after v (greedyTotals file) greedys
-  pub takenAfter : taken′ ≡ after v (greedyRow file) taken
-  pub demandThree : v ≡ passed → DemandThree file totals′ rows′ greedys′
+pub record ReportCall (file : List ℕ) (memory : ReportMemory) (v : Verdict) (memory′ : ReportMemory) : Type 0 where
+  pub verdict : v ≡ reportVerdict file memory
+  pub scratchAfter : ScratchAfter v file (memory .scratch) (memory′ .scratch)
+  pub planTotalsAfter : memory′ .planTotals ≡ after v (planTotals file) (memory .planTotals)
+  pub planRowsAfter : memory′ .planRows ≡ after v (planRows file) (memory .planRows)
+  pub greedyTotalsAfter : memory′ .greedyTotals ≡ after v (greedyTotals file) (memory .greedyTotals)
+  pub greedyNodesAfter : memory′ .greedyNodes ≡ after v (greedyRow file) (memory .greedyNodes)
+  pub demandThree : v ≡ passed → DemandThree file memory′
 
 -- ---- the text: "decimal, single spaces, a newline each"
 

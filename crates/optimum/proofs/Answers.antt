@@ -15,7 +15,7 @@ use Rattle.laws.proofs.Bools.{both}
 use Rattle.laws.proofs.Stores.{sets-front}
 use Rattle.model.specs.File.{budgetOf, mostBudget}
 use Rattle.model.specs.Rules.{passed, broken, scratchWords}
-use Rattle.model.specs.Calls.{answered, refused, answer, after, planTotals, planRows, planBuffersLong, planVerdict, PlanCall}
+use Rattle.model.specs.Calls.{answered, refused, answer, after, planTotals, planRows, PlanMemory, planBuffersLong, planVerdict, PlanCall}
 use Rattle.model.proofs.Written.{length-plan-totals, length-plan-rows}
 use Rattle.fields.specs.declared.Tree as code
 use Rattle.tree_file.specs.Checks.{sizesOf}
@@ -42,44 +42,43 @@ module _ {file totals rows : List ℕ} (l : Buffers file totals rows) where
 
 -- ---- each answer
 
-module _ (file scratch totals rows : List ℕ) where
-  refused-whole : {q i : ℕ} → broken q i ≡ planVerdict file scratch totals rows
-      → PlanCall file scratch totals rows (broken q i) scratch totals rows
+module _ (file : List ℕ) (memory : PlanMemory) where
+  refused-whole : {q i : ℕ} → broken q i ≡ planVerdict file memory → PlanCall file memory (broken q i) memory
   refused-whole e = record { verdict = e; scratchAfter = refl; totalsAfter = refl; rowsAfter = refl }
 
   -- the rules before rule 14 refuse
-  pub plan-refused : {q i : ℕ} → refused q i ≡ answer (lentVerdict file (length scratch)) (sizesOf file)
-      → PlanCall file scratch totals rows (broken q i) scratch totals rows
+  pub plan-refused : {q i : ℕ} → refused q i ≡ answer (lentVerdict file (length (memory .scratch))) (sizesOf file)
+      → PlanCall file memory (broken q i) memory
   unfolding planVerdict
-  plan-refused e = refused-whole (refused-before-buffers file scratch (planBuffersLong file totals rows) e)
+  plan-refused e = refused-whole (refused-before-buffers file (memory .scratch) (planBuffersLong file (memory .totals) (memory .rows)) e)
 
-  module _ {sizes : code.Tree} (e : answered sizes ≡ answer (lentVerdict file (length scratch)) (sizesOf file)) where
+  module _ {sizes : code.Tree} (e : answered sizes ≡ answer (lentVerdict file (length (memory .scratch))) (sizesOf file)) where
     -- rule 14, as it is asked with the sizes found
     abbrev bothLong : Bool
-    bothLong = leb (suc (sizes .budget)) (length totals) && leb (suc (sizes .budget) * sizes .budget) (length rows)
+    bothLong = leb (suc (sizes .budget)) (length (memory .totals)) && leb (suc (sizes .budget) * sizes .budget) (length (memory .rows))
 
-    long-is : {b : Bool} → bothLong ≡ b → planBuffersLong file totals rows ≡ b
+    long-is : {b : Bool} → bothLong ≡ b → planBuffersLong file (memory .totals) (memory .rows) ≡ b
     long-is h = rw (lent-told file e .2) at h
 
-    pub plan-short : bothLong ≡ false → PlanCall file scratch totals rows (broken 14 0) scratch totals rows
+    pub plan-short : bothLong ≡ false → PlanCall file memory (broken 14 0) memory
     unfolding planVerdict
-    plan-short h = refused-whole (buffers-decide file scratch _ e (long-is h))
+    plan-short h = refused-whole (buffers-decide file (memory .scratch) _ e (long-is h))
 
     module _ (h : bothLong ≡ true) where
-      pub plan-long : Buffers file totals rows
+      pub plan-long : Buffers file (memory .totals) (memory .rows)
       plan-long =
           let k = budgetOf file in
-          let l = both (leb (suc k) (length totals)) (leb (suc k * k) (length rows)) (long-is h) in
+          let l = both (leb (suc k) (length (memory .totals))) (leb (suc k * k) (length (memory .rows))) (long-is h) in
           record { totalsLong = rw (add-one k) (leb-true _ _ (l .0)); rowsLong = rw (add-one k) (leb-true _ _ (l .1)) }
 
       -- all rules hold
-      pub plan-written : {scratch′ totals′ rows′ : List ℕ} → FrontOnly (scratchWords file) scratch scratch′
-          → totals′ ≡ sets totals 0 (planTotals file) → rows′ ≡ sets rows 0 (planRows file)
-          → PlanCall file scratch totals rows passed scratch′ totals′ rows′
+      pub plan-written : {memory′ : PlanMemory} → FrontOnly (scratchWords file) (memory .scratch) (memory′ .scratch)
+          → memory′ .totals ≡ sets (memory .totals) 0 (planTotals file) → memory′ .rows ≡ sets (memory .rows) 0 (planRows file)
+          → PlanCall file memory passed memory′
       unfolding planVerdict
       plan-written s t r =
           record {
-            verdict = buffers-decide file scratch _ e (long-is h);
+            verdict = buffers-decide file (memory .scratch) _ e (long-is h);
             scratchAfter = (s .long, s .rest);
             totalsAfter = totals-after plan-long t;
             rowsAfter = rows-after plan-long r;

@@ -223,7 +223,7 @@ pub fn buffers_long(k: usize, totals: usize, rows: usize) -> bool
 
 // For each budget from 0 to k the least total and the nodes of the plan; a refusal writes nothing.
 pub fn plan(file: &[u8], scratch: &mut [u64], totals: &mut [u64], rows: &mut [u16]) -> Ruling
-    ensures { λ r. ⌜ PlanCall (now (file .entry)) (now (scratch .entry)) (now (totals .entry)) (now (rows .entry)) (verdictOf r) (now (scratch .exit)) (now (totals .exit)) (now (rows .exit)) ⌝ }
+    ensures { λ r. ⌜ PlanCall (now (file .entry)) record { scratch = now (scratch .entry); totals = now (totals .entry); rows = now (rows .entry) } (verdictOf r) record { scratch = now (scratch .exit); totals = now (totals .exit); rows = now (rows .exit) } ⌝ }
 {
     let checked = lent::check(file, scratch.len());
     match checked {

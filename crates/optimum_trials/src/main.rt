@@ -105,13 +105,13 @@ fn check_plan(i: u64, tree: SmallTree, b: usize, k: usize, totals: &[u64], rows:
 }
 
 // The greedy rule's total at b, and the node that it takes there.
-fn check_step(i: u64, tree: SmallTree, b: usize, k: usize, totals: &[u64], taken: &[u16]) {
+fn check_step(i: u64, tree: SmallTree, b: usize, k: usize, totals: &[u64], greedy_nodes: &[u16]) {
     let set = small_plans::greedy(tree, b);
     if total_at(totals, b) != small_plans::total(tree, set) {
         differs(i, b, b" greedy total");
     }
     if b < k {
-        if node_at(taken, b) != small_plans::greedy_node(tree, set) {
+        if node_at(greedy_nodes, b) != small_plans::greedy_node(tree, set) {
             differs(i, b, b" greedy node");
         }
     }
@@ -124,15 +124,15 @@ fn check_budgets(
     k: usize,
     totals: &[u64],
     rows: &[u16],
-    greedys: &[u64],
-    taken: &[u16],
+    greedy_totals: &[u64],
+    greedy_nodes: &[u16],
 )
     requires { ⌜ k ≤ 6 ⌝ }
 {
     let mut b = 0;
     while b <= k {
         check_plan(i, tree, b, k, totals, rows);
-        check_step(i, tree, b, k, greedys, taken);
+        check_step(i, tree, b, k, greedy_totals, greedy_nodes);
         b += 1;
     }
 }
@@ -152,7 +152,14 @@ fn kept_from(nodes: &[u16], at: usize) -> bool {
 }
 
 // The entries that the report does not write.
-fn check_beyond(i: u64, k: usize, totals: &[u64], rows: &[u16], greedys: &[u64], taken: &[u16])
+fn check_beyond(
+    i: u64,
+    k: usize,
+    totals: &[u64],
+    rows: &[u16],
+    greedy_totals: &[u64],
+    greedy_nodes: &[u16],
+)
     requires { ⌜ k ≤ 6 ⌝ }
 {
     if !trial_text::all_from(totals, k + 1, 7) {
@@ -161,10 +168,10 @@ fn check_beyond(i: u64, k: usize, totals: &[u64], rows: &[u16], greedys: &[u64],
     if !kept_from(rows, row_at(k + 1, k)) {
         differs(i, k, b" row beyond");
     }
-    if !trial_text::all_from(greedys, k + 1, 7) {
+    if !trial_text::all_from(greedy_totals, k + 1, 7) {
         differs(i, k, b" greedy total beyond");
     }
-    if !kept_from(taken, k) {
+    if !kept_from(greedy_nodes, k) {
         differs(i, k, b" greedy node beyond");
     }
 }
@@ -210,17 +217,17 @@ fn check_plan_call(i: u64, file: &[u8], totals: &[u64], rows: &[u16]) {
 }
 
 // Does the greedy call leave the same in its buffers as the report?
-fn check_greedy_call(i: u64, file: &[u8], greedys: &[u64], taken: &[u16]) {
+fn check_greedy_call(i: u64, file: &[u8], greedy_totals: &[u64], greedy_nodes: &[u16]) {
     let mut scratch = [7u64; 300];
     let mut others = [7u64; 8];
     let mut other_nodes = [7u16; 7];
     if !is_accepted(greedy::greedy(file, &mut scratch, &mut others, &mut other_nodes)) {
         differs(i, 0, b" greedy ruling");
     }
-    if !same_totals(&others, greedys) {
+    if !same_totals(&others, greedy_totals) {
         differs(i, 0, b" greedy call's total");
     }
-    if !same_nodes(&other_nodes, taken) {
+    if !same_nodes(&other_nodes, greedy_nodes) {
         differs(i, 0, b" greedy call's node");
     }
 }
@@ -232,22 +239,22 @@ fn check_report(i: u64, tree: SmallTree, k: usize, file: &[u8])
     let mut scratch = [7u64; 300];
     let mut totals = [7u64; 8];
     let mut rows = [7u16; 43];
-    let mut greedys = [7u64; 8];
-    let mut taken = [7u16; 7];
+    let mut greedy_totals = [7u64; 8];
+    let mut greedy_nodes = [7u16; 7];
     if !is_accepted(report::report(
         file,
         &mut scratch,
         &mut totals,
         &mut rows,
-        &mut greedys,
-        &mut taken,
+        &mut greedy_totals,
+        &mut greedy_nodes,
     )) {
         differs(i, 0, b" report's ruling");
     }
-    check_budgets(i, tree, k, &totals, &rows, &greedys, &taken);
-    check_beyond(i, k, &totals, &rows, &greedys, &taken);
+    check_budgets(i, tree, k, &totals, &rows, &greedy_totals, &greedy_nodes);
+    check_beyond(i, k, &totals, &rows, &greedy_totals, &greedy_nodes);
     check_plan_call(i, file, &totals, &rows);
-    check_greedy_call(i, file, &greedys, &taken);
+    check_greedy_call(i, file, &greedy_totals, &greedy_nodes);
 }
 
 // ---- the bill of a set

@@ -9,7 +9,7 @@ use borrow.Author.Tests.{le-leb, lt-leb}
 use Rattle.laws.proofs.Stores.{sets-front}
 use Rattle.model.specs.File.{treeOf, countOf}
 use Rattle.model.specs.Rules.{passed, broken, fileVerdict, ascends, isSet}
-use Rattle.model.specs.Calls.{answered, refused, billVerdict, servingNodes, linkLoads, BillCall}
+use Rattle.model.specs.Calls.{answered, refused, BillMemory, billVerdict, servingNodes, linkLoads, BillCall}
 use Rattle.model.proofs.Accepted.{accepted-header, accepted-sound}
 use Rattle.model.proofs.Written.{length-serving-nodes, length-link-loads}
 use Rattle.placement.specs.Passes.{AcceptedFile, Billable, Walkable}
@@ -24,18 +24,18 @@ accepted-file file ok nodes =
 pub set-of-file : (file k : List ℕ) {n : ℕ} → passed ≡ fileVerdict file → n ≡ countOf file → ascends 0 n k ≡ true → Billable file n k
 set-of-file file k ok nodes is-set = record { ofFile = accepted-file file ok nodes; ofNodes = rw nodes at is-set }
 
-module _ (file k servings loads : List ℕ) where
-  bill-refused : {q i : ℕ} → billVerdict file k servings loads ≡ broken q i → BillCall file k servings loads (refused q i) servings loads
+module _ (file k : List ℕ) (memory : BillMemory) where
+  bill-refused : {q i : ℕ} → billVerdict file k memory ≡ broken q i → BillCall file k memory (refused q i) memory
   bill-refused e = record { answers = rw e; servingsAfter = rw e; loadsAfter = rw e }
 
   -- a rule from 1 to 11 is broken
-  pub bill-refused-file : {q i : ℕ} → broken q i ≡ fileVerdict file → BillCall file k servings loads (refused q i) servings loads
+  pub bill-refused-file : {q i : ℕ} → broken q i ≡ fileVerdict file → BillCall file k memory (refused q i) memory
   unfolding billVerdict
   bill-refused-file e = bill-refused (rw (sym e))
 
   module _ {n : ℕ} (ok : passed ≡ fileVerdict file) (nodes : n ≡ countOf file) where
     -- rule 12
-    pub bill-refused-set : ascends 0 n k ≡ false → BillCall file k servings loads (refused 12 0) servings loads
+    pub bill-refused-set : ascends 0 n k ≡ false → BillCall file k memory (refused 12 0) memory
     unfolding billVerdict
     bill-refused-set e = bill-refused (rw (sym ok, rw nodes at e))
 
@@ -44,27 +44,27 @@ module _ (file k servings loads : List ℕ) where
       in-tree = rw nodes at is-set
 
       -- rule 14
-      pub bill-refused-servings : length servings < n → BillCall file k servings loads (refused 14 0) servings loads
+      pub bill-refused-servings : length (memory .servings) < n → BillCall file k memory (refused 14 0) memory
       unfolding billVerdict
-      bill-refused-servings h = bill-refused (rw (sym ok, in-tree, lt-leb (countOf file) (length servings) (omega arith)))
+      bill-refused-servings h = bill-refused (rw (sym ok, in-tree, lt-leb (countOf file) (length (memory .servings)) (omega arith)))
 
-      pub bill-refused-loads : length loads < n → BillCall file k servings loads (refused 14 0) servings loads
+      pub bill-refused-loads : length (memory .loads) < n → BillCall file k memory (refused 14 0) memory
       unfolding billVerdict
-      bill-refused-loads h = bill-refused (rw (sym ok, in-tree, lt-leb (countOf file) (length loads) (omega arith), and-false))
+      bill-refused-loads h = bill-refused (rw (sym ok, in-tree, lt-leb (countOf file) (length (memory .loads)) (omega arith), and-false))
 
-      module _ (h : n ≤ length servings) (g : n ≤ length loads) where
-        pub buffers-walkable : Walkable file n servings loads
+      module _ (h : n ≤ length (memory .servings)) (g : n ≤ length (memory .loads)) where
+        pub buffers-walkable : Walkable file n (memory .servings) (memory .loads)
         buffers-walkable = record { ofFile = accepted-file file ok nodes; servingsLong = h; loadsLong = g }
 
         -- every rule has its yes
-        pub bill-answered : {x : ℕ} {servings′ loads′ : List ℕ} → BillWritten file k servings loads x servings′ loads′
-            → BillCall file k servings loads (answered x) servings′ loads′
+        pub bill-answered : {x : ℕ} {memory′ : BillMemory} → BillWritten file k (memory .servings) (memory .loads) x (memory′ .servings) (memory′ .loads)
+            → BillCall file k memory (answered x) memory′
         unfolding billVerdict
         bill-answered w =
-            let all : billVerdict file k servings loads ≡ passed =
-            rw (sym ok, in-tree, le-leb (countOf file) (length servings) (omega arith), le-leb (countOf file) (length loads) (omega arith)) in
+            let all : billVerdict file k memory ≡ passed =
+            rw (sym ok, in-tree, le-leb (countOf file) (length (memory .servings)) (omega arith), le-leb (countOf file) (length (memory .loads)) (omega arith)) in
             record {
               answers = rw all (ap answered (w .totalIs));
-              servingsAfter = rw all (w .servingsAre ∙ sets-front servings (servingNodes file k) (omega (arith, length-serving-nodes file k)));
-              loadsAfter = rw all (w .loadsAre ∙ sets-front loads (linkLoads file k) (omega (arith, length-link-loads file k)));
+              servingsAfter = rw all (w .servingsAre ∙ sets-front (memory .servings) (servingNodes file k) (omega (arith, length-serving-nodes file k)));
+              loadsAfter = rw all (w .loadsAre ∙ sets-front (memory .loads) (linkLoads file k) (omega (arith, length-link-loads file k)));
             }

@@ -13,7 +13,7 @@ use Rattle.model.specs.File.{treeOf, countOf, budgetOf}
 use Rattle.model.specs.Tree.{height}
 use Rattle.model.specs.Rules.{Verdict, passed, isPassed, fileVerdict, accepted, scratchWords}
 use Rattle.model.specs.Calls.{after, planTotals, planRows, greedyTotals}
-use Rattle.model.specs.Report.{programNodes, programHeight, programBudget, isSmall, reportVerdict, ReportCall}
+use Rattle.model.specs.Report.{programNodes, programHeight, programBudget, isSmall, ReportMemory, reportVerdict, ReportCall}
 use Rattle.model.proofs.Reported.{report-passes}
 use Rattle.lent.proofs.Asked.{words-grow}
 use Rattle.program_report.specs.Memory.{programScratch}
@@ -41,14 +41,17 @@ module _ (file : List ℕ) (small : isSmall file ≡ true) where
       let s : suc (budgetOf file) ≤ suc programBudget = omega arith in
       mul-le-mul s k
 
-  pub memory-enough : (scratch totals rows greedys taken : List ℕ) → fileVerdict file ≡ passed
-      → length scratch ≡ programScratch → length totals ≡ suc programBudget → length rows ≡ suc programBudget * programBudget
-      → length greedys ≡ suc programBudget → length taken ≡ programBudget
-      → reportVerdict file scratch totals rows greedys taken ≡ passed
+  pub memory-enough : (memory : ReportMemory) → fileVerdict file ≡ passed
+      → length (memory .scratch) ≡ programScratch
+      → length (memory .planTotals) ≡ suc programBudget
+      → length (memory .planRows) ≡ suc programBudget * programBudget
+      → length (memory .greedyTotals) ≡ suc programBudget
+      → length (memory .greedyNodes) ≡ programBudget
+      → reportVerdict file memory ≡ passed
   unfolding accepted
-  memory-enough scratch totals rows greedys taken ok s t r g n =
+  memory-enough memory ok s t r g n =
       let k = limits .2 in
-      report-passes file scratch totals rows greedys taken .1 (
+      report-passes file memory .1 (
         ap isPassed ok,
         rw s (le-leb _ _ words-within),
         rw (t, r, g, n, le-leb (suc (budgetOf file)) (suc programBudget) (omega arith), le-leb _ _ rows-within, le-leb (budgetOf file) programBudget k),
@@ -56,20 +59,20 @@ module _ (file : List ℕ) (small : isSmall file ≡ true) where
 
 -- ---- the report that it holds
 
-module _ (file : List ℕ) {scratch totals rows greedys taken scratch′ totals′ rows′ greedys′ taken′ : List ℕ} {v : Verdict}
-    (call : ReportCall file scratch totals rows greedys taken v scratch′ totals′ rows′ greedys′ taken′)
-    (passes : reportVerdict file scratch totals rows greedys taken ≡ passed) where
-  pub written : _≡_ {A = Report} (record { totals = totals′; rows = rows′; greedys = greedys′ })
+module _ (file : List ℕ) {memory memory′ : ReportMemory} {v : Verdict} (call : ReportCall file memory v memory′)
+    (passes : reportVerdict file memory ≡ passed) where
+  pub written : _≡_ {A = Report}
+      (record { totals = memory′ .planTotals; rows = memory′ .planRows; «greedy_totals» = memory′ .greedyTotals })
       (record {
-        totals = after passed (planTotals file) totals;
-        rows = after passed (planRows file) rows;
-        greedys = after passed (greedyTotals file) greedys;
+        totals = after passed (planTotals file) (memory .planTotals);
+        rows = after passed (planRows file) (memory .planRows);
+        «greedy_totals» = after passed (greedyTotals file) (memory .greedyTotals);
       })
   written =
       let e = call .verdict ∙ passes in
       λ i.
       record {
-        totals = (call .totalsAfter ∙ ap (λ u. after u (planTotals file) totals) e) i;
-        rows = (call .rowsAfter ∙ ap (λ u. after u (planRows file) rows) e) i;
-        greedys = (call .greedysAfter ∙ ap (λ u. after u (greedyTotals file) greedys) e) i;
+        totals = (call .planTotalsAfter ∙ ap (λ u. after u (planTotals file) (memory .planTotals)) e) i;
+        rows = (call .planRowsAfter ∙ ap (λ u. after u (planRows file) (memory .planRows)) e) i;
+        «greedy_totals» = (call .greedyTotalsAfter ∙ ap (λ u. after u (greedyTotals file) (memory .greedyTotals)) e) i;
       }

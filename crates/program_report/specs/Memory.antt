@@ -17,5 +17,5 @@ reportOf file =
     record {
       totals = after passed (planTotals file) (replicate (suc programBudget) 0);
       rows = after passed (planRows file) (replicate (suc programBudget * programBudget) 0);
-      greedys = after passed (greedyTotals file) (replicate (suc programBudget) 0);
+      «greedy_totals» = after passed (greedyTotals file) (replicate (suc programBudget) 0);
     }

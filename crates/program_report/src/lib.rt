@@ -31,7 +31,7 @@ const SCRATCH: usize = NODES * (HEIGHT + 1) * (BUDGET + 1) + 4 * NODES;
 pub struct Report {
     pub totals: [u64; TOTALS],
     pub rows: [u16; ROWS],
-    pub greedys: [u64; TOTALS],
+    pub greedy_totals: [u64; TOTALS],
 }
 
 // The rest of rule 15.
@@ -74,19 +74,19 @@ pub fn report_of(file: &[u8]) -> Report
     let mut scratch = [0u64; SCRATCH];
     let mut totals = [0u64; TOTALS];
     let mut rows = [0u16; ROWS];
-    let mut greedys = [0u64; TOTALS];
-    let mut taken = [0u16; BUDGET];
+    let mut greedy_totals = [0u64; TOTALS];
+    let mut greedy_nodes = [0u16; BUDGET];
     report::report(
         file,
         &mut scratch,
         &mut totals,
         &mut rows,
-        &mut greedys,
-        &mut taken,
+        &mut greedy_totals,
+        &mut greedy_nodes,
     );
     Report {
         totals,
         rows,
-        greedys,
+        greedy_totals,
     }
 }

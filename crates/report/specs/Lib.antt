@@ -1,1 +1,1 @@
-pub mod Made
+pub mod Written

@@ -6,19 +6,25 @@ ghost use lib.Dec.{leb};
 ghost use Rattle.model.specs.File.{mostBudget};
 ghost use Rattle.model.specs.Report.{ReportCall};
 ghost use Rattle.tree_file.specs.Checks.{verdictOf};
-ghost use Rattle.report.specs.Made.{ReportRoom, Made};
+ghost use Rattle.report.specs.Written.{ReportRoom, ReportWritten};
 use tree_file::Checked;
 use tree_file::Ruling;
 
 // Rule 14, of the plan's buffers and of the greedy rule's.
-fn buffers_long(k: usize, totals: usize, rows: usize, greedys: usize, taken: usize) -> bool
+fn buffers_long(
+    k: usize,
+    totals: usize,
+    rows: usize,
+    greedy_totals: usize,
+    greedy_nodes: usize,
+) -> bool
     requires { ⌜ k ≤ mostBudget ⌝ }
-    ensures { λ r. ⌜ r ≡ ((leb (suc k) totals && leb (suc k * k) rows) && (leb (suc k) greedys && leb k taken)) ⌝ }
+    ensures { λ r. ⌜ r ≡ ((leb (suc k) totals && leb (suc k * k) rows) && (leb (suc k) «greedy_totals» && leb k «greedy_nodes»)) ⌝ }
 {
     if !optimum::buffers_long(k, totals, rows) {
         return false;
     }
-    greedy::buffers_long(k, greedys, taken)
+    greedy::buffers_long(k, greedy_totals, greedy_nodes)
 }
 
 // Both answers, one after the other in the same scratch.
@@ -28,14 +34,21 @@ fn make_report(
     scratch: &mut [u64],
     totals: &mut [u64],
     rows: &mut [u16],
-    greedys: &mut [u64],
-    taken: &mut [u16],
+    greedy_totals: &mut [u64],
+    greedy_nodes: &mut [u16],
 )
-    requires { ⌜ ReportRoom (now file) tree (now scratch) (now totals) (now rows) (now greedys) (now taken) ⌝ }
-    ensures { λ _. ⌜ Made (now (file .entry)) (now (scratch .entry)) (now (totals .entry)) (now (rows .entry)) (now (greedys .entry)) (now (taken .entry)) (now (scratch .exit)) (now (totals .exit)) (now (rows .exit)) (now (greedys .exit)) (now (taken .exit)) ⌝ }
+    requires { ⌜ ReportRoom (now file) tree record { scratch = now scratch; planTotals = now totals; planRows = now rows; greedyTotals = now «greedy_totals»; greedyNodes = now «greedy_nodes» } ⌝ }
+    ensures { λ _. ⌜ ReportWritten (now (file .entry)) record { scratch = now (scratch .entry); planTotals = now (totals .entry); planRows = now (rows .entry); greedyTotals = now («greedy_totals» .entry); greedyNodes = now («greedy_nodes» .entry) } record { scratch = now (scratch .exit); planTotals = now (totals .exit); planRows = now (rows .exit); greedyTotals = now («greedy_totals» .exit); greedyNodes = now («greedy_nodes» .exit) } ⌝ }
 {
     optimum::make_plan(file, tree, scratch, totals, rows);
-    greedy::run(file, tree.nodes, tree.budget, scratch, greedys, taken);
+    greedy::run(
+        file,
+        tree.nodes,
+        tree.budget,
+        scratch,
+        greedy_totals,
+        greedy_nodes,
+    );
 }
 
 // At each budget from 0 to k: the plan's total and row of nodes, and the greedy rule's total; and the greedy rule's nodes.
@@ -45,10 +58,10 @@ pub fn report(
     scratch: &mut [u64],
     totals: &mut [u64],
     rows: &mut [u16],
-    greedys: &mut [u64],
-    taken: &mut [u16],
+    greedy_totals: &mut [u64],
+    greedy_nodes: &mut [u16],
 ) -> Ruling
-    ensures { λ r. ⌜ ReportCall (now (file .entry)) (now (scratch .entry)) (now (totals .entry)) (now (rows .entry)) (now (greedys .entry)) (now (taken .entry)) (verdictOf r) (now (scratch .exit)) (now (totals .exit)) (now (rows .exit)) (now (greedys .exit)) (now (taken .exit)) ⌝ }
+    ensures { λ r. ⌜ ReportCall (now (file .entry)) record { scratch = now (scratch .entry); planTotals = now (totals .entry); planRows = now (rows .entry); greedyTotals = now («greedy_totals» .entry); greedyNodes = now («greedy_nodes» .entry) } (verdictOf r) record { scratch = now (scratch .exit); planTotals = now (totals .exit); planRows = now (rows .exit); greedyTotals = now («greedy_totals» .exit); greedyNodes = now («greedy_nodes» .exit) } ⌝ }
 {
     let checked = lent::check(file, scratch.len());
     match checked {
@@ -57,12 +70,20 @@ pub fn report(
                 tree.budget,
                 totals.len(),
                 rows.len(),
-                greedys.len(),
-                taken.len(),
+                greedy_totals.len(),
+                greedy_nodes.len(),
             ) {
                 return Ruling::Broken(14, 0);
             }
-            make_report(file, tree, scratch, totals, rows, greedys, taken);
+            make_report(
+                file,
+                tree,
+                scratch,
+                totals,
+                rows,
+                greedy_totals,
+                greedy_nodes,
+            );
             Ruling::Passed
         }
         Checked::Refused(q, record) => Ruling::Broken(q, record),

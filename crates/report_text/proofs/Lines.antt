@@ -19,14 +19,14 @@ line-pieces w x y zs =
     let apart : (a b c : List ℕ) → w ++ (a ++ (b ++ c)) ≡ w ++ a ++ b ++ c = λ a b c. simp append-assoc in
     rw (spaced-decimals zs) (ap (λ l. l ++ (newline ∷ [])) (apart (word x) (word y) (words zs)))
 
-pub budget-line-pieces : (k : ℕ) (totals rows greedys : List ℕ) (b : ℕ)
-    → budgetLine k totals rows greedys b ≡ decimal b ++ word (getD totals b 0) ++ word (getD greedys b 0) ++ words (setOfRow k rows b) ++ (newline ∷ [])
+pub budget-line-pieces : (k : ℕ) (totals rows greedyTotals : List ℕ) (b : ℕ)
+    → budgetLine k totals rows greedyTotals b ≡ decimal b ++ word (getD totals b 0) ++ word (getD greedyTotals b 0) ++ words (setOfRow k rows b) ++ (newline ∷ [])
 unfolding budgetLine
-budget-line-pieces k totals rows greedys b = line-pieces (decimal b) (getD totals b 0) (getD greedys b 0) (setOfRow k rows b)
+budget-line-pieces k totals rows greedyTotals b = line-pieces (decimal b) (getD totals b 0) (getD greedyTotals b 0) (setOfRow k rows b)
 
 pub refusal-pieces : (q i : ℕ) → refusalText q i ≡ refusedWord ++ word q ++ word i ++ (newline ∷ [])
 unfolding refusalText flatMap
 refusal-pieces q i = line-pieces refusedWord q i [] ∙ ap (λ l. l ++ (newline ∷ [])) (append-nil (refusedWord ++ word q ++ word i))
 
-pub row-there : {k b : ℕ} {totals rows greedys : List ℕ} → ReportBuffers k totals rows greedys → b ≤ k → b * k + k ≤ length rows
+pub row-there : {k b : ℕ} {totals rows greedyTotals : List ℕ} → ReportBuffers k totals rows greedyTotals → b ≤ k → b * k + k ≤ length rows
 row-there {k} {b} r h = omega (arith, r .rowsLong, row-before {i = b} {j = k + 1} k (omega arith))

@@ -41,7 +41,7 @@ appended-prints a h =
 module _ (file : List ℕ) where
   -- the program's memory holds a report of its budget
   pub memory-reported : programVerdict file ≡ passed → {k : ℕ} {r : Report} → k ≡ budgetOf file → r ≡ reportOf file
-      → ReportBuffers k (r .totals) (r .rows) (r .greedys)
+      → ReportBuffers k (r .totals) (r .rows) (r .«greedy_totals»)
   memory-reported ok budget held =
       let more = add-one (budgetOf file) in
       rw (budget, held)
@@ -49,12 +49,12 @@ module _ (file : List ℕ) where
         small = limits file (program-accepted file ok .1) .2;
         totalsLong = rw more (written-there (planTotals file) _ (length-plan-totals file));
         rowsLong = rw more (written-there (planRows file) _ (length-plan-rows file));
-        greedysLong = rw more (written-there (greedyTotals file) _ (length-greedy-totals file));
+        greedyTotalsLong = rw more (written-there (greedyTotals file) _ (length-greedy-totals file));
       })
 
   -- and its lines are the report's text
   pub memory-lines : {k : ℕ} {r : Report} → k ≡ budgetOf file → r ≡ reportOf file
-      → flatMap (budgetLine k (r .totals) (r .rows) (r .greedys)) (range 0 (suc k)) ≡ reportText file
+      → flatMap (budgetLine k (r .totals) (r .rows) (r .«greedy_totals»)) (range 0 (suc k)) ≡ reportText file
   unfolding budgetLine reportText
   memory-lines budget held =
       rw (budget, held)

@@ -22,7 +22,7 @@ isNode v = not (eqb v 0)
 
 -- the line of budget b, of what the buffers of a report hold: rows of k numbers
 unfoldable pub budgetLine : ℕ → List ℕ → List ℕ → List ℕ → ℕ → List ℕ
-budgetLine k totals rows greedys b = line (decimal b) (map decimal (getD totals b 0 ∷ getD greedys b 0 ∷ setOfRow k rows b))
+budgetLine k totals rows greedyTotals b = line (decimal b) (map decimal (getD totals b 0 ∷ getD greedyTotals b 0 ∷ setOfRow k rows b))
 
 -- ---- the room
 
@@ -54,8 +54,8 @@ pub record AppendedWithin (room at : ℕ) (bytes old new : List ℕ) (end : ℕ)
 -- ---- the buffers
 
 -- what a report of budget k, within the program's limit, holds: k + 1 totals, k + 1 rows of k numbers, k + 1 greedy totals
-pub record ReportBuffers (k : ℕ) (totals rows greedys : List ℕ) : Type 0 where
+pub record ReportBuffers (k : ℕ) (totals rows greedyTotals : List ℕ) : Type 0 where
   pub small : k ≤ programBudget
   pub totalsLong : k + 1 ≤ length totals
   pub rowsLong : (k + 1) * k ≤ length rows
-  pub greedysLong : k + 1 ≤ length greedys
+  pub greedyTotalsLong : k + 1 ≤ length greedyTotals

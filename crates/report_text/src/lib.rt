@@ -84,29 +84,35 @@ fn put_line(
     k: usize,
     totals: &[u64],
     rows: &[u16],
-    greedys: &[u64],
+    greedy_totals: &[u64],
 ) -> usize
-    requires { ⌜ ReportBuffers k (now totals) (now rows) (now greedys) ⌝ }
+    requires { ⌜ ReportBuffers k (now totals) (now rows) (now «greedy_totals») ⌝ }
     requires { ⌜ (b ≤ k) × (at + lineRoom ≤ length (now text)) ⌝ }
-    ensures { λ r. ⌜ AppendedWithin lineRoom at (budgetLine k (now (totals .entry)) (now (rows .entry)) (now (greedys .entry)) b) (now (text .entry)) (now (text .exit)) r ⌝ }
+    ensures { λ r. ⌜ AppendedWithin lineRoom at (budgetLine k (now (totals .entry)) (now (rows .entry)) (now («greedy_totals» .entry)) b) (now (text .entry)) (now (text .exit)) r ⌝ }
 {
     let mut end = put_number(text, at, b as u64);
     end = put_word(text, end, totals[b]);
-    end = put_word(text, end, greedys[b]);
+    end = put_word(text, end, greedy_totals[b]);
     end = put_nodes(text, end, rows, b * k, k);
     text_bytes::put_byte(text, end, NEWLINE)
 }
 
 // Appends the line of every budget from 0 to k, at the start of the text.
-fn put_lines(text: &mut [u8], k: usize, totals: &[u64], rows: &[u16], greedys: &[u64]) -> usize
-    requires { ⌜ ReportBuffers k (now totals) (now rows) (now greedys) ⌝ }
+fn put_lines(
+    text: &mut [u8],
+    k: usize,
+    totals: &[u64],
+    rows: &[u16],
+    greedy_totals: &[u64],
+) -> usize
+    requires { ⌜ ReportBuffers k (now totals) (now rows) (now «greedy_totals») ⌝ }
     requires { ⌜ linesRoom ≤ length (now text) ⌝ }
-    ensures { λ r. ⌜ AppendedWithin linesRoom 0 (flatMap (budgetLine k (now (totals .entry)) (now (rows .entry)) (now (greedys .entry))) (range 0 (suc k))) (now (text .entry)) (now (text .exit)) r ⌝ }
+    ensures { λ r. ⌜ AppendedWithin linesRoom 0 (flatMap (budgetLine k (now (totals .entry)) (now (rows .entry)) (now («greedy_totals» .entry))) (range 0 (suc k))) (now (text .entry)) (now (text .exit)) r ⌝ }
 {
     let mut end = 0;
     let mut b = 0;
     while b <= k {
-        end = put_line(text, end, b, k, totals, rows, greedys);
+        end = put_line(text, end, b, k, totals, rows, greedy_totals);
         b += 1;
     }
     end
@@ -133,9 +139,9 @@ fn report_lines(file: &[u8], budget: usize) -> Text
     let report = program_report::report_of(file);
     let totals = report.totals;
     let rows = report.rows;
-    let greedys = report.greedys;
+    let greedy_totals = report.greedy_totals;
     let mut bytes = [0u8; ROOM];
-    let length = put_lines(&mut bytes, budget, &totals, &rows, &greedys);
+    let length = put_lines(&mut bytes, budget, &totals, &rows, &greedy_totals);
     Text { bytes, length }
 }
 

@@ -1,17 +1,17 @@
 // Runs the cases of the report call: a case to each line of standard input, and its answer on a line of standard output.
 //
-// `NAME SCRATCH BEYOND TOTALS ROWS GREEDYS TAKEN FILE` lends a scratch of so many words and buffers of so many entries:
+// `NAME SCRATCH BEYOND TOTALS ROWS GREEDY_TOTALS GREEDY_NODES FILE` lends a scratch of so many words and buffers of so many entries:
 // `NAME accepted` or `NAME refused RULE RECORD`, then the four buffers, whole, and `kept` if the words of the scratch from
 // BEYOND on are as they were. Before the call each word of the scratch is 5432123, each plan total 987654321, each entry of the
-// rows 4321, each greedy total 123456789 and each entry of the nodes taken 1234.
+// rows 4321, each greedy total 123456789 and each entry of the greedy nodes 1234.
 use libc::STDIN_FILENO;
 use libc::STDOUT_FILENO;
 
-fn print_greedy(totals: &[u64], taken: &[u16]) {
-    io::write_all(STDOUT_FILENO, b" greedys");
+fn print_greedy(totals: &[u64], greedy_nodes: &[u16]) {
+    io::write_all(STDOUT_FILENO, b" greedy_totals");
     trial_text::print_totals(totals);
-    io::write_all(STDOUT_FILENO, b" taken");
-    trial_text::print_numbers(taken);
+    io::write_all(STDOUT_FILENO, b" greedy_nodes");
+    trial_text::print_numbers(greedy_nodes);
 }
 
 fn answer(
@@ -20,12 +20,12 @@ fn answer(
     scratch: &mut [u64],
     totals: &mut [u64],
     rows: &mut [u16],
-    greedys: &mut [u64],
-    taken: &mut [u16],
+    greedy_totals: &mut [u64],
+    greedy_nodes: &mut [u16],
 ) {
-    trial_text::print_ruling(report::report(file, scratch, totals, rows, greedys, taken));
+    trial_text::print_ruling(report::report(file, scratch, totals, rows, greedy_totals, greedy_nodes));
     trial_text::print_plan(totals, rows);
-    print_greedy(greedys, taken);
+    print_greedy(greedy_totals, greedy_nodes);
     trial_text::print_kept(scratch, beyond, 5432123);
 }
 
@@ -37,8 +37,8 @@ fn answer_plan(
     totals: &mut [u64],
     rows: &mut [u16],
 ) {
-    let mut greedys = [123456789u64; 40];
-    let mut taken = [1234u16; 40];
+    let mut greedy_totals = [123456789u64; 40];
+    let mut greedy_nodes = [1234u16; 40];
     let beyond = trial_text::entries(line, 2, 40960);
     let d = trial_text::entries(line, 5, 40);
     let e = trial_text::entries(line, 6, 40);
@@ -48,8 +48,8 @@ fn answer_plan(
         scratch,
         totals,
         rows,
-        &mut greedys[0..d],
-        &mut taken[0..e],
+        &mut greedy_totals[0..d],
+        &mut greedy_nodes[0..e],
     );
 }
 

@@ -20,12 +20,12 @@ buffers-long-requires c κs = lent-sizes _ _ (ap answerOf (sym (c .before .check
 returns : tie.Need-returns
 returns c =
     let b = c .before in
-    greedy-short _ _ _ _ (ap answerOf (sym (b .before .before .checked .given .1)) ∙ b .before .before .before .before .check .ensures) (failed (b .buffers-long .ensures) (c .if1 .taken))
+    greedy-short _ _ (ap answerOf (sym (b .before .before .checked .given .1)) ∙ b .before .before .before .before .check .ensures) (failed (b .buffers-long .ensures) (c .if1 .taken))
 
 run-requires : tie.Need-run-requires
 run-requires c κs =
     let b = c .before .before .before .before in
-    greedy-room _ _ _ _ (ap answerOf (sym (b .before .before .checked .given .1)) ∙ b .before .before .before .before .check .ensures) (held (b .buffers-long .ensures) (c .before .before .before .if1 .left))
+    greedy-room _ _ (ap answerOf (sym (b .before .before .checked .given .1)) ∙ b .before .before .before .before .check .ensures) (held (b .buffers-long .ensures) (c .before .before .before .if1 .left))
 
 enum-known-checked-2 : tie.Need-enum-known-checked-2
 enum-known-checked-2 c = search needs
@@ -44,10 +44,10 @@ returns-2 c =
     let r = c .before .before .before .before .before .before in
     let b = r .before .before .before .before .before in
     let told = ap answerOf (sym (b .before .before .checked .given .1)) ∙ b .before .before .before .before .check .ensures in
-    greedy-written _ _ _ _ told (held (b .buffers-long .ensures) (r .before .before .before .before .if1 .left)) (r .run .ensures)
+    greedy-written _ _ told (held (b .buffers-long .ensures) (r .before .before .before .before .if1 .left)) (r .run .ensures)
 
 returns-3 : tie.Need-returns-3
-returns-3 c = greedy-refused _ _ _ _ (ap answerOf (sym (c .before .checked2 .given .1)) ∙ c .before .before .before .check .ensures)
+returns-3 c = greedy-refused _ _ (ap answerOf (sym (c .before .checked2 .given .1)) ∙ c .before .before .before .check .ensures)
 
 pub greedy-spec : {M : Type 1} → statement M
 greedy-spec =

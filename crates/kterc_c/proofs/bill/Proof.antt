@@ -8,7 +8,7 @@ no-room-requires : tie.Need-no-room-requires
 no-room-requires c κs = search needs
 
 returns : tie.Need-returns
-returns c = bill-no-room _ _ _ _ _ (c .no-room .ensures) (c .before .if1 .taken)
+returns c = bill-no-room _ _ _ (c .no-room .ensures) (c .before .if1 .taken)
 
 bill-requires : tie.Need-bill-requires
 bill-requires c κs = search needs
@@ -32,7 +32,7 @@ same-length-3 : tie.Need-same-length-3
 same-length-3 c = search needs
 
 returns-2 : tie.Need-returns-2
-returns-2 c = bill-billed _ _ _ _ _ (c .before .before .before .before .before .before .before .before .before .before .if1 .left) (rw (c .before .billed .given .1) at (c .before .before .before .before .before .before .before .bill .ensures))
+returns-2 c = bill-billed _ _ _ (c .before .before .before .before .before .before .before .before .before .before .if1 .left) (rw (c .before .billed .given .1) at (c .before .before .before .before .before .before .before .bill .ensures))
 
 same-length-4 : tie.Need-same-length-4
 same-length-4 c = search needs
@@ -41,7 +41,7 @@ same-length-5 : tie.Need-same-length-5
 same-length-5 c = search needs
 
 returns-3 : tie.Need-returns-3
-returns-3 c = bill-refused _ _ _ _ _ (c .before .before .before .before .before .before .before .before .before .before .if1 .left) (rw (c .before .billed2 .given .1) at (c .before .before .before .before .before .before .before .bill .ensures))
+returns-3 c = bill-refused _ _ _ (c .before .before .before .before .before .before .before .before .before .before .if1 .left) (rw (c .before .billed2 .given .1) at (c .before .before .before .before .before .before .before .bill .ensures))
 
 pub bill-spec : {M : Type 1} → statement M
 bill-spec =

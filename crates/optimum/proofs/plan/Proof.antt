@@ -20,7 +20,7 @@ buffers-long-requires c κs = lent-sizes _ _ (ap answerOf (sym (c .before .check
 returns : tie.Need-returns
 returns c =
     let b = c .before in
-    plan-short _ _ _ _ (ap answerOf (sym (b .before .before .checked .given .1)) ∙ b .before .before .before .before .check .ensures) (failed (b .buffers-long .ensures) (c .if1 .taken))
+    plan-short _ _ (ap answerOf (sym (b .before .before .checked .given .1)) ∙ b .before .before .before .before .check .ensures) (failed (b .buffers-long .ensures) (c .if1 .taken))
 
 make-plan-requires : tie.Need-make-plan-requires
 make-plan-requires c κs =
@@ -28,7 +28,7 @@ make-plan-requires c κs =
     let a = b .before .before .before .before .before .before .before .before .before .args in
     let told = ap answerOf (sym (b .before .before .checked .given .1)) ∙ b .before .before .before .before .check .ensures in (
       plan-room (a .file .now) (a .scratch .now) told,
-      plan-long (a .file .now) (a .scratch .now) (a .totals .now) (a .rows .now) told (held (b .buffers-long .ensures) (c .before .before .before .if1 .left)),
+      plan-long (a .file .now) record { scratch = a .scratch .now; totals = a .totals .now; rows = a .rows .now } told (held (b .buffers-long .ensures) (c .before .before .before .if1 .left)),
     )
 
 enum-known-checked-2 : tie.Need-enum-known-checked-2
@@ -49,10 +49,10 @@ returns-2 c =
     let b = m .before .before .before .before .before in
     let told = ap answerOf (sym (b .before .before .checked .given .1)) ∙ b .before .before .before .before .check .ensures in
     let made = m .make-plan .ensures in
-    plan-written _ _ _ _ told (held (b .buffers-long .ensures) (m .before .before .before .before .if1 .left)) (made .0) (made .1 .0) (made .1 .1)
+    plan-written _ _ told (held (b .buffers-long .ensures) (m .before .before .before .before .if1 .left)) (made .0) (made .1 .0) (made .1 .1)
 
 returns-3 : tie.Need-returns-3
-returns-3 c = plan-refused _ _ _ _ (ap answerOf (sym (c .before .checked2 .given .1)) ∙ c .before .before .before .check .ensures)
+returns-3 c = plan-refused _ _ (ap answerOf (sym (c .before .checked2 .given .1)) ∙ c .before .before .before .check .ensures)
 
 pub plan-spec : {M : Type 1} → statement M
 plan-spec =

@@ -5,10 +5,10 @@ use Rattle.optimum_trials.proofs.check_budgets.Statement.{statement}
 use Rattle.optimum_trials.proofs.check_budgets.Tie as tie
 
 abbrev Inv-loop : tie.InvT-loop
-Inv-loop i tree k totals rows greedys taken b₀ b = b ≤ k + 1
+Inv-loop i tree k totals rows greedyTotals greedyNodes b₀ b = b ≤ k + 1
 
 abbrev μ-loop : tie.MeasureT-loop
-μ-loop i tree k totals rows greedys taken b₀ b = k + 1 - b
+μ-loop i tree k totals rows greedyTotals greedyNodes b₀ b = k + 1 - b
 
 loop-holds : tie.Need-loop-holds Inv-loop μ-loop
 loop-holds c = search needs

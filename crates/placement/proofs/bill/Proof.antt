@@ -21,16 +21,16 @@ is-set-requires : tie.Need-is-set-requires
 is-set-requires c κs = search needs
 
 returns : tie.Need-returns
-returns c = bill-refused-set _ _ _ _ (told (c .before .before .before .enum-told .given .1) (c .before .before .before .before .before .file-ruling .ensures)) (c .before .before .count-of .ensures) (failed (c .before .is-set .ensures) (c .if1 .taken))
+returns c = bill-refused-set _ _ _ (told (c .before .before .before .enum-told .given .1) (c .before .before .before .before .before .file-ruling .ensures)) (c .before .before .count-of .ensures) (failed (c .before .is-set .ensures) (c .if1 .taken))
 
 returns-2 : tie.Need-returns-2
-returns-2 c = bill-refused-servings _ _ _ _ (told (c .before .before .before .before .enum-told .given .1) (c .before .before .before .before .before .before .file-ruling .ensures)) (c .before .before .before .count-of .ensures) (held (c .before .before .is-set .ensures) (c .before .if1 .left)) (c .if2 .taken)
+returns-2 c = bill-refused-servings _ _ _ (told (c .before .before .before .before .enum-told .given .1) (c .before .before .before .before .before .before .file-ruling .ensures)) (c .before .before .before .count-of .ensures) (held (c .before .before .is-set .ensures) (c .before .if1 .left)) (c .if2 .taken)
 
 returns-3 : tie.Need-returns-3
-returns-3 c = bill-refused-loads _ _ _ _ (told (c .before .before .before .before .before .enum-told .given .1) (c .before .before .before .before .before .before .before .file-ruling .ensures)) (c .before .before .before .before .count-of .ensures) (held (c .before .before .before .is-set .ensures) (c .before .before .if1 .left)) (c .if3 .taken)
+returns-3 c = bill-refused-loads _ _ _ (told (c .before .before .before .before .before .enum-told .given .1) (c .before .before .before .before .before .before .before .file-ruling .ensures)) (c .before .before .before .before .count-of .ensures) (held (c .before .before .before .is-set .ensures) (c .before .before .if1 .left)) (c .if3 .taken)
 
 write-bill-requires : tie.Need-write-bill-requires
-write-bill-requires c κs = (set-of-file _ _ (told (c .before .before .before .before .before .before .before .enum-told .given .1) (c .before .before .before .before .before .before .before .before .before .file-ruling .ensures)) (c .before .before .before .before .before .before .count-of .ensures) (held (c .before .before .before .before .before .is-set .ensures) (c .before .before .before .before .if1 .left)), buffers-walkable _ _ _ _ (told (c .before .before .before .before .before .before .before .enum-told .given .1) (c .before .before .before .before .before .before .before .before .before .file-ruling .ensures)) (c .before .before .before .before .before .before .count-of .ensures) (held (c .before .before .before .before .before .is-set .ensures) (c .before .before .before .before .if1 .left)) (c .before .before .before .if2 .left) (c .before .before .if3 .left))
+write-bill-requires c κs = (set-of-file _ _ (told (c .before .before .before .before .before .before .before .enum-told .given .1) (c .before .before .before .before .before .before .before .before .before .file-ruling .ensures)) (c .before .before .before .before .before .before .count-of .ensures) (held (c .before .before .before .before .before .is-set .ensures) (c .before .before .before .before .if1 .left)), buffers-walkable _ _ _ (told (c .before .before .before .before .before .before .before .enum-told .given .1) (c .before .before .before .before .before .before .before .before .before .file-ruling .ensures)) (c .before .before .before .before .before .before .count-of .ensures) (held (c .before .before .before .before .before .is-set .ensures) (c .before .before .before .before .if1 .left)) (c .before .before .before .if2 .left) (c .before .before .if3 .left))
 
 enum-known-ruling : tie.Need-enum-known-ruling
 enum-known-ruling c = search needs
@@ -42,10 +42,10 @@ same-length-2 : tie.Need-same-length-2
 same-length-2 c = search needs
 
 returns-4 : tie.Need-returns-4
-returns-4 c = bill-answered _ _ _ _ (told (c .before .before .before .before .before .before .before .before .before .before .before .before .enum-told .given .1) (c .before .before .before .before .before .before .before .before .before .before .before .before .before .before .file-ruling .ensures)) (c .before .before .before .before .before .before .before .before .before .before .before .count-of .ensures) (held (c .before .before .before .before .before .before .before .before .before .before .is-set .ensures) (c .before .before .before .before .before .before .before .before .before .if1 .left)) (c .before .before .before .before .before .before .before .before .if2 .left) (c .before .before .before .before .before .before .before .if3 .left) (c .before .before .before .before .write-bill .ensures)
+returns-4 c = bill-answered _ _ _ (told (c .before .before .before .before .before .before .before .before .before .before .before .before .enum-told .given .1) (c .before .before .before .before .before .before .before .before .before .before .before .before .before .before .file-ruling .ensures)) (c .before .before .before .before .before .before .before .before .before .before .before .count-of .ensures) (held (c .before .before .before .before .before .before .before .before .before .before .is-set .ensures) (c .before .before .before .before .before .before .before .before .before .if1 .left)) (c .before .before .before .before .before .before .before .before .if2 .left) (c .before .before .before .before .before .before .before .if3 .left) (c .before .before .before .before .write-bill .ensures)
 
 returns-5 : tie.Need-returns-5
-returns-5 c = bill-refused-file _ _ _ _ (told (c .before .ruling .given .1) (c .before .before .before .file-ruling .ensures))
+returns-5 c = bill-refused-file _ _ _ (told (c .before .ruling .given .1) (c .before .before .before .file-ruling .ensures))
 
 pub bill-spec : {M : Type 1} → statement M
 bill-spec =

@@ -25,7 +25,7 @@ report-requires : tie.Need-report-requires
 report-requires c κs = search needs
 
 returns : tie.Need-returns
-returns c = let ok = program-accepted _ (c .before .before .before .before .before .before .before .before .before .before .before .before .pre) in written _ (c .before .before .before .before .before .report .ensures) (memory-enough _ (ok .1) _ _ _ _ _ (ok .0) refl refl refl refl refl)
+returns c = let ok = program-accepted _ (c .before .before .before .before .before .before .before .before .before .before .before .before .pre) in written _ (c .before .before .before .before .before .report .ensures) (memory-enough _ (ok .1) _ (ok .0) refl refl refl refl refl)
 
 pub report-of-spec : {M : Type 1} → statement M
 report-of-spec =

@@ -1,7 +1,7 @@
 -- `make_report`: the plan, then the greedy rule in the same scratch.
 use borrow.Author.Needs.{needs}
-use Rattle.greedy.proofs.Answers.{room-still}
-use Rattle.report.proofs.Answers.{both-made}
+use Rattle.greedy.proofs.Answers.{granted-still}
+use Rattle.report.proofs.Answers.{both-written}
 use Rattle.report.proofs.make_report.Statement.{statement}
 use Rattle.report.proofs.make_report.Tie as tie
 
@@ -27,7 +27,7 @@ same-length-5 : tie.Need-same-length-5
 same-length-5 c = search needs
 
 returns : tie.Need-returns
-returns c = let plan = c .before .before .before .before .before .before .before .before .before .before .before .before .before .before .before .before .make-plan .ensures in both-made (c .before .before .before .before .before .before .before .before .before .before .before .before .before .before .before .before .before .before .before .before .before .before .before .before .before .before .pre) (plan .0) (plan .1 .0) (plan .1 .1) (c .before .before .before .before .before .before .run .ensures)
+returns c = let plan = c .before .before .before .before .before .before .before .before .before .before .before .before .before .before .before .before .make-plan .ensures in both-written (c .before .before .before .before .before .before .before .before .before .before .before .before .before .before .before .before .before .before .before .before .before .before .before .before .before .before .pre) (plan .0) (plan .1 .0) (plan .1 .1) (c .before .before .before .before .before .before .run .ensures)
 
 pub make-report-spec : {M : Type 1} → statement M
 make-report-spec =

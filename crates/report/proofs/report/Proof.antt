@@ -4,7 +4,7 @@ use mathlib.Core.Path.{sym, ap, _∙_}
 use Rattle.laws.proofs.Bools.{held, failed}
 use Rattle.tree_file.specs.Checks.{answerOf}
 use Rattle.lent.proofs.Asked.{lent-sizes}
-use Rattle.report.proofs.Answers.{report-refused, report-short, report-lent, report-made}
+use Rattle.report.proofs.Answers.{report-refused, report-short, report-lent, report-written}
 use Rattle.report.proofs.report.Statement.{statement}
 use Rattle.report.proofs.report.Tie as tie
 
@@ -18,10 +18,10 @@ buffers-long-requires : tie.Need-buffers-long-requires
 buffers-long-requires c κs = lent-sizes _ _ (ap answerOf (sym (c .before .checked .given .1)) ∙ c .before .before .before .check .ensures) .budget
 
 returns : tie.Need-returns
-returns c = report-short _ _ _ _ _ _ (ap answerOf (sym (c .before .before .before .checked .given .1)) ∙ c .before .before .before .before .before .check .ensures) (failed (c .before .buffers-long .ensures) (c .if1 .taken))
+returns c = report-short _ _ (ap answerOf (sym (c .before .before .before .checked .given .1)) ∙ c .before .before .before .before .before .check .ensures) (failed (c .before .buffers-long .ensures) (c .if1 .taken))
 
 make-report-requires : tie.Need-make-report-requires
-make-report-requires c κs = report-lent _ _ _ _ _ _ (ap answerOf (sym (c .before .before .before .before .before .before .before .before .checked .given .1)) ∙ c .before .before .before .before .before .before .before .before .before .before .check .ensures) (held (c .before .before .before .before .before .before .buffers-long .ensures) (c .before .before .before .before .before .if1 .left))
+make-report-requires c κs = report-lent _ _ (ap answerOf (sym (c .before .before .before .before .before .before .before .before .checked .given .1)) ∙ c .before .before .before .before .before .before .before .before .before .before .check .ensures) (held (c .before .before .before .before .before .before .buffers-long .ensures) (c .before .before .before .before .before .if1 .left))
 
 enum-known-checked-2 : tie.Need-enum-known-checked-2
 enum-known-checked-2 c = search needs
@@ -42,10 +42,10 @@ same-length-5 : tie.Need-same-length-5
 same-length-5 c = search needs
 
 returns-2 : tie.Need-returns-2
-returns-2 c = report-made _ _ _ _ _ _ (ap answerOf (sym (c .before .before .before .before .before .before .before .before .before .before .before .before .before .before .before .before .before .before .before .checked .given .1)) ∙ c .before .before .before .before .before .before .before .before .before .before .before .before .before .before .before .before .before .before .before .before .before .check .ensures) (held (c .before .before .before .before .before .before .before .before .before .before .before .before .before .before .before .before .before .buffers-long .ensures) (c .before .before .before .before .before .before .before .before .before .before .before .before .before .before .before .before .if1 .left)) (c .before .before .before .before .before .before .before .before .before .before .make-report .ensures)
+returns-2 c = report-written _ _ (ap answerOf (sym (c .before .before .before .before .before .before .before .before .before .before .before .before .before .before .before .before .before .before .before .checked .given .1)) ∙ c .before .before .before .before .before .before .before .before .before .before .before .before .before .before .before .before .before .before .before .before .before .check .ensures) (held (c .before .before .before .before .before .before .before .before .before .before .before .before .before .before .before .before .before .buffers-long .ensures) (c .before .before .before .before .before .before .before .before .before .before .before .before .before .before .before .before .if1 .left)) (c .before .before .before .before .before .before .before .before .before .before .make-report .ensures)
 
 returns-3 : tie.Need-returns-3
-returns-3 c = report-refused _ _ _ _ _ _ (ap answerOf (sym (c .before .checked2 .given .1)) ∙ c .before .before .before .check .ensures)
+returns-3 c = report-refused _ _ (ap answerOf (sym (c .before .checked2 .given .1)) ∙ c .before .before .before .check .ensures)
 
 pub report-spec : {M : Type 1} → statement M
 report-spec =

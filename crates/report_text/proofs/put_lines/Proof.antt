@@ -14,10 +14,10 @@ use Rattle.report_text.proofs.put_lines.Statement.{statement}
 use Rattle.report_text.proofs.put_lines.Tie as tie
 
 abbrev Inv-loop : tie.InvT-loop
-Inv-loop text₀ k totals rows greedys end₀ b₀ text end b = (b ≤ k + 1) × AppendedWithin (b * lineRoom) 0 (flatMap (budgetLine k totals rows greedys) (range 0 b)) text₀ text end
+Inv-loop text₀ k totals rows greedyTotals end₀ b₀ text end b = (b ≤ k + 1) × AppendedWithin (b * lineRoom) 0 (flatMap (budgetLine k totals rows greedyTotals) (range 0 b)) text₀ text end
 
 abbrev μ-loop : tie.MeasureT-loop
-μ-loop text₀ k totals rows greedys end₀ b₀ text end b = k + 1 - b
+μ-loop text₀ k totals rows greedyTotals end₀ b₀ text end b = k + 1 - b
 
 loop-holds : tie.Need-loop-holds Inv-loop μ-loop
 unfolding flatMap range
