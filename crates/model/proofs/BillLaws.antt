@@ -2,7 +2,7 @@
 use mathlib.Core.Path.{_≡_, refl, sym, ap, _∙_}
 use mathlib.Core.Bool.{Bool, true, false, cond, _||_, or-true, or-false}
 use mathlib.Core.List.{List}
-use mathlib.Core.Logic.{_↔_, inl, inr, ⊎-elim}
+use mathlib.Core.Logic.{_↔_, _⊎_, inl, inr, ⊎-elim}
 use Prim.Native.Nat.{ℕ, suc, _≤_}
 use native.Mathlib.Decide.{ℕ-discrete}
 use native.Mathlib.Nat.{mul-le-mul}
@@ -13,13 +13,13 @@ use Rattle.laws.proofs.Bools.{by-test, not-both, either}
 use Rattle.model.specs.File.{Tree, Demand, treeOf, demandOf}
 use Rattle.model.specs.Tree.{nodes, route, atOrBelow}
 use Rattle.model.specs.Rules.{fileVerdict, accepted}
-use Rattle.model.specs.Bill.{upTo, linkLoad, serving}
+use Rattle.model.specs.Bill.{price, cost, upTo, linkLoad, serving}
 use Rattle.model.specs.BillLaws.{Serves, CacheBetween, PutsOn, BillLawful}
 use Rattle.model.proofs.Verdicts.{is-passed}
 use Rattle.model.proofs.Accepted.{accepted-sound}
-use Rattle.model.proofs.Routes.{Preorder, parent-before, route-up, by-route}
+use Rattle.model.proofs.Routes.{route-ends, Preorder, parent-before, route-up, by-route}
 use Rattle.model.proofs.Intervals.{below-self, below-after, below-other, below-parent, below-trans}
-use Rattle.model.proofs.Nearest.{distance-grows, serving-server, serving-up}
+use Rattle.model.proofs.Nearest.{distance-grows, serving-server, serving-up, price-falls, cost-is}
 use Rattle.model.proofs.Loads.{sent, bears, link-load-is}
 
 module _ (t : Tree) (pre : Preorder t) (k : List ℕ) where
@@ -55,6 +55,20 @@ module _ (t : Tree) (pre : Preorder t) (k : List ℕ) where
   only-serving v s p =
       let q = serving-serves v in
       omega (arith, serves-no-later v s (serving t k v) p q, serves-no-later v (serving t k v) s q p)
+
+  -- ---- the cost of a client
+
+  module _ (d : Demand) (c : ℕ) where
+    -- a member on the route, or the server, is no nearer than the serving node
+    cost-least : (v : ℕ) → atOrBelow t v c ≡ true → (has k v ≡ true) ⊎ (v ≡ 0) → cost t d k c ≤ price t d c v
+    unfolding atOrBelow
+    cost-least v b m =
+        let s = serving t k c in
+        let above : has (route t s) v ≡ true = ⊎-elim (λ h. serving-serves c .nearest v h b) (λ e. rw e (route-ends t s)) m in
+        rw (cost-is t pre k d c) (price-falls t pre k d c s v (distance-grows t pre v s above))
+
+    cost-reached : (v : ℕ) × (atOrBelow t v c ≡ true) × ((has k v ≡ true) ⊎ (v ≡ 0)) × (cost t d k c ≡ price t d c v)
+    cost-reached = let s = serving-serves c in (serving t k c, s .onRoute, s .member, cost-is t pre k d c)
 
   -- ---- a member between a client and a link
 
@@ -141,6 +155,8 @@ bill-lawful file fits =
     record {
       servingSaid = serving-serves t pre;
       servingOnly = only-serving t pre;
+      costLeast = λ k. cost-least t pre k d;
+      costReached = λ k. cost-reached t pre k d;
       loadSaid = λ k v z. load-said t pre k v z d;
       serverLoad = λ k. refl;
       priceExact = λ c v b. mul-le-mul (ok .hit c) (distance-grows t pre v c b);

@@ -97,6 +97,7 @@ worked = record {
   calls = record {
     largestTotal = refl;
     largestSaved = refl;
+    totalsBelow = refl;
     setPasses = refl;
     setOver = refl;
     setOfServer = refl;

@@ -7,7 +7,7 @@ use Prim.Native.Nat.{ℕ, _*_, _-_, _≤_}
 use Rattle.laws.specs.Lists.{sum, has}
 use Rattle.model.specs.File.{Tree, Demand}
 use Rattle.model.specs.Tree.{nodes, atOrBelow, distance}
-use Rattle.model.specs.Bill.{linkLoad, serving}
+use Rattle.model.specs.Bill.{price, cost, linkLoad, serving}
 
 -- s is "the first member of K met going up from the node, itself included, else 0"
 pub record Serves (t : Tree) (k : List ℕ) (v s : ℕ) : Type 0 where
@@ -34,6 +34,10 @@ pub record BillLawful (t : Tree) (d : Demand) : Type 0 where
   -- The serving node is the first member met going up, else 0, and no other node is.
   pub servingSaid : (k : List ℕ) (v : ℕ) → Serves t k v (serving t k v)
   pub servingOnly : (k : List ℕ) (v s : ℕ) → Serves t k v s → s ≡ serving t k v
+  -- "the least over v on its route (c itself and the server included; v in K or the server)": none costs less, and one costs it
+  pub costLeast : (k : List ℕ) (c v : ℕ) → atOrBelow t v c ≡ true → (has k v ≡ true) ⊎ (v ≡ 0) → cost t d k c ≤ price t d c v
+  pub costReached : (k : List ℕ) (c : ℕ)
+      → (v : ℕ) × (atOrBelow t v c ≡ true) × ((has k v ≡ true) ⊎ (v ≡ 0)) × (cost t d k c ≡ price t d c v)
   -- The load above each single link, also one of length 0, is the sum of what each client puts there; node 0 has load 0.
   pub loadSaid : (k : List ℕ) (v : ℕ) → 1 ≤ v
       → (puts : ℕ → ℕ) × ((c : ℕ) → PutsOn t d k c v (puts c)) × (linkLoad t d k v ≡ sum puts (nodes t))

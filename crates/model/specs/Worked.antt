@@ -8,7 +8,7 @@ use lib.ListN.{length, take, drop, replicate}
 use Rattle.laws.specs.Lists.{range}
 use Rattle.model.specs.File.{fieldTable, treeOf, demandOf}
 use Rattle.model.specs.Rules.{Verdict, passed, broken, fileVerdict, scratchWords}
-use Rattle.model.specs.Bill.{total}
+use Rattle.model.specs.Bill.{totalLimit, total}
 use Rattle.model.specs.Calls.{Answer, answered, refused, after, checkNumber, recordBytes, billVerdict, servingNodes, linkLoads, BillCall, first, second, ranking, winner, planTotals, planRows, planVerdict, PlanCall, greedyTotals, greedyRow, greedyVerdict, GreedyCall}
 use Rattle.model.specs.Report.{setOfRow, reportVerdict, ReportCall, isSmall, programVerdict, programText}
 use Rattle.model.specs.Hosts.{codeOf, wordsAsked, hostBillVerdict, HostBillCall}
@@ -130,6 +130,8 @@ pub record CallCases : Type 0 where
   -- 100,000,000 × 1,000 × 1,000; all of it is saved by a cache with hit 1,000
   pub largestTotal : total (treeOf largest) (demandOf largest) [] ≡ 100_000_000_000_000
   pub largestSaved : total (treeOf largest) (demandOf largest) (1 ∷ []) ≡ 0
+  -- "below 2^62"
+  pub totalsBelow : totalLimit ≡ 4_611_686_018_427_387_904
   -- 12: a set is strictly ascending, each from 1 to n − 1
   pub setPasses : billVerdict fileA (1 ∷ 4 ∷ []) (replicate 5 0) (replicate 5 0) ≡ passed
   pub setOver : billVerdict fileA (5 ∷ []) (replicate 5 0) (replicate 5 0) ≡ broken 12 0
