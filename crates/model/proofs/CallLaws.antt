@@ -13,7 +13,7 @@ use borrow.Author.Tests.{leb-true, le-leb, ltb-true}
 use Rattle.laws.proofs.Bools.{both}
 use Rattle.model.specs.File.{Tree, Demand, treeOf, demandOf}
 use Rattle.model.specs.Rules.{Verdict, longEnough, scratchWords}
-use Rattle.model.specs.Bill.{total}
+use Rattle.model.specs.Bill.{total, linkTotal}
 use Rattle.model.specs.Ties.{ranksBefore}
 use Rattle.model.specs.Plan.{plan, planTotal}
 use Rattle.model.specs.Greedy.{greedyTotal}
@@ -112,10 +112,10 @@ module _ (t : Tree) (d : Demand) (b : ℕ) where
       }
 
   only-optimum : (held : List ℕ) (p g : ℕ) → HoldsOptimum t d b held p g
-      → (held ≡ plan t d b) × (p ≡ planTotal t d b) × (g ≡ greedyTotal t d b)
+      → (held ≡ plan t d b) × (p ≡ planTotal t d b) × (g ≡ greedyTotal t d b) × (p ≡ linkTotal t d held) × (p ≤ g)
   only-optimum held p g h =
       let e = only-plan t d b held (optimum-ranks-first held p g h) in
-      (e, h .exactTotal ∙ ap (total t d) e, h .greedyExact)
+      (e, h .exactTotal ∙ ap (total t d) e, h .greedyExact, h .overLinks, h .greedyNoLess)
 
 pub calls-lawful : (file : List ℕ) → CallsLawful file
 calls-lawful file =

@@ -110,6 +110,7 @@ worked = record {
     servingsOfOne = refl;
     servingsOfTwo = refl;
     loadsOfTwo = refl;
+    loadOnLengthZero = refl;
     entriesStay = refl;
     refusalKeeps = refl;
     lessIsFirst = refl;

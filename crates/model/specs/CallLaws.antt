@@ -8,6 +8,7 @@ use Prim.Native.Nat.{ℕ, _/_, _%_, _≤_}
 use lib.ListN.{length, getD}
 use Rattle.model.specs.File.{treeOf, demandOf, budgetOf}
 use Rattle.model.specs.Rules.{Verdict, passed, broken, scratchWords}
+use Rattle.model.specs.Bill.{linkTotal}
 use Rattle.model.specs.Ties.{ranksBefore}
 use Rattle.model.specs.Plan.{plan, planTotal}
 use Rattle.model.specs.Greedy.{greedyTotal}
@@ -17,7 +18,7 @@ use Rattle.model.specs.Hosts.{codeOf, hostBillVerdict}
 
 -- the ranking of K and L in a file, and its winner
 pub record RankingSaid (file k l : List ℕ) : Type 0 where
-  -- first, just where both may be ranked and L does not rank before K ("equal sets: first")
+  -- first, just where no rule is broken and L does not rank before K ("equal sets: first")
   pub firstSaid : ranking file k l ≡ answered first
       ↔ ((rankVerdict file k l ≡ passed) × (ranksBefore (treeOf file) (demandOf file) l k ≡ false))
   -- second, just where L does
@@ -38,6 +39,7 @@ pub record CodeSaid (v : Verdict) : Type 0 where
 -- of a file, with any sets, buffers and scratch
 pub record CallsLawful (file : List ℕ) : Type 0 where
   pub rankings : (k l : List ℕ) → RankingSaid file k l
+  -- a host's code of the bill, the plan, the greedy rule and the report
   pub billCode : (set totals servings loads : List ℕ) → CodeSaid (hostBillVerdict file set totals servings loads)
   pub planCode : (scratch totals rows : List ℕ) → CodeSaid (planVerdict file scratch totals rows)
   pub greedyCode : (scratch totals taken : List ℕ) → CodeSaid (greedyVerdict file scratch totals taken)
@@ -53,8 +55,11 @@ pub record CallsLawful (file : List ℕ) : Type 0 where
   pub scratchStays : (old new : List ℕ) → ScratchAfter passed file old new
       → (length new ≡ length old) × ((i : ℕ) → scratchWords file ≤ i → getD new i 0 ≡ getD old i 0)
   pub scratchKept : (q i : ℕ) (old new : List ℕ) → ScratchAfter (broken q i) file old new → new ≡ old
-  -- Demand 3 leaves no choice: at each budget one set and two totals meet it.
+  -- Demand 3 leaves no choice: at each budget one set and two totals meet it. The first is the sum over links, and no more
+  -- than the second.
   pub demandSettles : (totals rows greedys : List ℕ) → DemandThree file totals rows greedys → (b : ℕ) → b ≤ budgetOf file
       → (setOfRow (budgetOf file) rows b ≡ plan (treeOf file) (demandOf file) b)
       × (getD totals b 0 ≡ planTotal (treeOf file) (demandOf file) b)
       × (getD greedys b 0 ≡ greedyTotal (treeOf file) (demandOf file) b)
+      × (getD totals b 0 ≡ linkTotal (treeOf file) (demandOf file) (setOfRow (budgetOf file) rows b))
+      × (getD totals b 0 ≤ getD greedys b 0)

@@ -147,6 +147,8 @@ pub record CallCases : Type 0 where
   pub servingsOfOne : servingNodes fileA (1 ∷ []) ≡ 0 ∷ 1 ∷ 1 ∷ 1 ∷ 0 ∷ []
   pub servingsOfTwo : servingNodes fileA (2 ∷ 4 ∷ []) ≡ 0 ∷ 0 ∷ 2 ∷ 0 ∷ 4 ∷ []
   pub loadsOfTwo : linkLoads fileA (2 ∷ 4 ∷ []) ≡ 0 ∷ 20000 ∷ 0 ∷ 20000 ∷ 1000 ∷ []
+  -- a link of length 0 has its load too
+  pub loadOnLengthZero : linkLoads (twoNodes (tenBytes 0x00 0x00 0x00 0x00 0x00 0x00 0x00 0x04 0x03 0xE8)) [] ≡ 0 ∷ 4000 ∷ []
   -- "Entries beyond those written stay"; a refusal writes nothing
   pub entriesStay : after passed (1 ∷ 2 ∷ []) (7 ∷ 8 ∷ 9 ∷ []) ≡ 1 ∷ 2 ∷ 9 ∷ []
   pub refusalKeeps : after (broken 14 0) (1 ∷ 2 ∷ []) (7 ∷ []) ≡ 7 ∷ []
