@@ -1,26 +1,22 @@
--- The laws of the bill hold of every accepted file.
+-- Laws of the bill, said without recursion over a route: the serving node, a client's cost, and the load above a link.
 use mathlib.Core.Path.{_≡_, refl, sym, ap, _∙_}
 use mathlib.Core.Bool.{Bool, true, false, cond, _||_, or-true, or-false}
 use mathlib.Core.List.{List}
-use mathlib.Core.Logic.{_↔_, inl, inr, ⊎-elim}
+use mathlib.Core.Logic.{_↔_, _⊎_, inl, inr, ⊎-elim}
 use Prim.Native.Nat.{ℕ, suc, _≤_}
 use native.Mathlib.Decide.{ℕ-discrete}
-use native.Mathlib.Nat.{mul-le-mul}
 use native.Mathlib.Omega.{arith}
 use borrow.Author.Tests.{eq-eqb, ne-eqb}
 use Rattle.laws.specs.Lists.{sum, has, anyOf}
 use Rattle.laws.proofs.Bools.{by-test, not-both, either}
-use Rattle.model.specs.File.{Tree, Demand, treeOf, demandOf}
+use Rattle.model.specs.File.{Tree, Demand}
 use Rattle.model.specs.Tree.{nodes, route, atOrBelow}
-use Rattle.model.specs.Rules.{fileVerdict, accepted}
-use Rattle.model.specs.Bill.{upTo, linkLoad, serving}
+use Rattle.model.specs.Bill.{price, cost, upTo, linkLoad, serving}
 use Rattle.model.specs.Preorder.{Preorder}
-use Rattle.model.specs.BillLaws.{Serves, CacheBetween, PutsOn, BillLawful}
-use Rattle.model.proofs.Verdicts.{is-passed}
-use Rattle.model.proofs.Accepted.{accepted-sound}
-use Rattle.model.proofs.Routes.{parent-before, route-up, by-route}
+use Rattle.model.specs.Laws.{Serves, CacheBetween, PutsOn}
+use Rattle.model.proofs.Routes.{route-ends, parent-before, route-up, by-route}
 use Rattle.model.proofs.Intervals.{below-self, below-after, below-other, below-parent, below-trans}
-use Rattle.model.proofs.Nearest.{distance-grows, serving-server, serving-up}
+use Rattle.model.proofs.Nearest.{distance-grows, serving-server, serving-up, price-falls, cost-is}
 use Rattle.model.proofs.Loads.{sent, bears, link-load-is}
 
 module _ (t : Tree) (pre : Preorder t) (k : List ℕ) where
@@ -42,7 +38,7 @@ module _ (t : Tree) (pre : Preorder t) (k : List ℕ) where
         nearest = λ u m b. r .nearest u m (sym (below-other t pre u (suc i) (omega arith) (λ e. not-both m (ap (has k) (sym e) ∙ lacks))) ∙ b);
       }
 
-  serving-serves : (v : ℕ) → Serves t k v (serving t k v)
+  pub serving-serves : (v : ℕ) → Serves t k v (serving t k v)
   serving-serves =
       by-route t pre (λ v. Serves t k v (serving t k v))
       (rw (serving-server t pre k) serves-server)
@@ -52,10 +48,24 @@ module _ (t : Tree) (pre : Preorder t) (k : List ℕ) where
   serves-no-later : (v r s : ℕ) → Serves t k v r → Serves t k v s → r ≤ s
   serves-no-later v r s p q = ⊎-elim (λ m. below-after t pre r s (q .nearest r m (p .onRoute))) (λ e. omega arith) (p .member)
 
-  only-serving : (v s : ℕ) → Serves t k v s → s ≡ serving t k v
+  pub only-serving : (v s : ℕ) → Serves t k v s → s ≡ serving t k v
   only-serving v s p =
       let q = serving-serves v in
       omega (arith, serves-no-later v s (serving t k v) p q, serves-no-later v (serving t k v) s q p)
+
+  -- ---- the cost of a client
+
+  module _ (d : Demand) (c : ℕ) where
+    -- a member on the route, or the server, is no nearer than the serving node
+    pub cost-least : (v : ℕ) → atOrBelow t v c ≡ true → (has k v ≡ true) ⊎ (v ≡ 0) → cost t d k c ≤ price t d c v
+    unfolding atOrBelow
+    cost-least v b m =
+        let s = serving t k c in
+        let above : has (route t s) v ≡ true = ⊎-elim (λ h. serving-serves c .nearest v h b) (λ e. rw e (route-ends t s)) m in
+        rw (cost-is t pre k d c) (price-falls t pre k d c s v (distance-grows t pre v s above))
+
+    pub cost-reached : (v : ℕ) × (atOrBelow t v c ≡ true) × ((has k v ≡ true) ⊎ (v ≡ 0)) × (cost t d k c ≡ price t d c v)
+    cost-reached = let s = serving-serves c in (serving t k c, s .onRoute, s .member, cost-is t pre k d c)
 
   -- ---- a member between a client and a link
 
@@ -128,22 +138,6 @@ module _ (t : Tree) (pre : Preorder t) (k : List ℕ) where
             whole = λ b none. rw (b, by-test (λ m. met c ≡ m → m ≡ false) (met c) (λ _ h. absurd (none (met-said c b .0 h))) (λ _ _. refl) refl);
           }
 
-      load-said : (f : ℕ → ℕ) × ((c : ℕ) → PutsOn t d k c v (f c)) × (linkLoad t d k v ≡ sum f (nodes t))
+      pub load-said : (f : ℕ → ℕ) × ((c : ℕ) → PutsOn t d k c v (f c)) × (linkLoad t d k v ≡ sum f (nodes t))
       unfolding puts
       load-said = (puts, puts-on, link-load-is t d pre k v z)
-
-pub bill-lawful : (file : List ℕ) → accepted file ≡ true → BillLawful (treeOf file) (demandOf file)
-unfolding accepted linkLoad atOrBelow
-bill-lawful file fits =
-    let t = treeOf file in
-    let d = demandOf file in
-    let ok = accepted-sound file (is-passed (fileVerdict file) fits) in
-    let pre = ok .preorder in
-    record {
-      servingSaid = serving-serves t pre;
-      servingOnly = only-serving t pre;
-      loadSaid = λ k v z. load-said t pre k v z d;
-      serverLoad = λ k. refl;
-      priceExact = λ c v b. mul-le-mul (ok .hit c) (distance-grows t pre v c b);
-      loadExact = ok .hit;
-    }

@@ -13,19 +13,20 @@ use borrow.Author.Tests.{leb-true, le-leb, ltb-true}
 use Rattle.laws.proofs.Bools.{both}
 use Rattle.model.specs.File.{Tree, Demand, treeOf, demandOf}
 use Rattle.model.specs.Rules.{Verdict, longEnough, scratchWords}
-use Rattle.model.specs.Bill.{total}
+use Rattle.model.specs.Bill.{total, linkTotal}
 use Rattle.model.specs.Ties.{ranksBefore}
 use Rattle.model.specs.Plan.{plan, planTotal}
 use Rattle.model.specs.Greedy.{greedyTotal}
 use Rattle.model.specs.Calls.{Winner, named, first, second, rankVerdict, ranking}
 use Rattle.model.specs.Report.{HoldsOptimum}
 use Rattle.model.specs.Hosts.{codeUnit, codeOf}
-use Rattle.model.specs.Laws.{RanksFirst, Numbered}
+use Rattle.model.specs.Laws.{RanksFirst}
 use Rattle.model.specs.CallLaws.{RankingSaid, CodeSaid, CallsLawful}
 use Rattle.model.proofs.Verdicts.{answered-passed, refused-broken}
 use Rattle.model.proofs.Order.{smaller-said}
 use Rattle.model.proofs.Plans.{only-plan}
-use Rattle.model.proofs.Codes.{code-reads, code-none, bill-numbered, plan-numbered, greedy-numbered, report-numbered}
+use Rattle.model.proofs.Codes.{Numbered, code-reads, code-none, bill-numbered, plan-numbered, greedy-numbered, report-numbered}
+use Rattle.model.proofs.Decimals.{decimal-reads}
 use Rattle.model.proofs.Written.{length-serving-nodes, length-link-loads, length-plan-totals, length-plan-rows, length-greedy-totals, length-greedy-row}
 
 -- ---- the ranking
@@ -113,23 +114,24 @@ module _ (t : Tree) (d : Demand) (b : ℕ) where
       }
 
   only-optimum : (held : List ℕ) (p g : ℕ) → HoldsOptimum t d b held p g
-      → (held ≡ plan t d b) × (p ≡ planTotal t d b) × (g ≡ greedyTotal t d b)
+      → (held ≡ plan t d b) × (p ≡ planTotal t d b) × (g ≡ greedyTotal t d b) × (p ≡ linkTotal t d held) × (p ≤ g)
   only-optimum held p g h =
       let e = only-plan t d b held (optimum-ranks-first held p g h) in
-      (e, h .exactTotal ∙ ap (total t d) e, h .greedyExact)
+      (e, h .exactTotal ∙ ap (total t d) e, h .greedyExact, h .overLinks, h .greedyNoLess)
 
 pub calls-lawful : (file : List ℕ) → CallsLawful file
 calls-lawful file =
     record {
       rankings = ranking-said file;
-      billCode = λ set totals servings loads. code-said _ (bill-numbered file set totals servings loads);
-      planCode = λ scratch totals rows. code-said _ (plan-numbered file scratch totals rows);
-      greedyCode = λ scratch totals taken. code-said _ (greedy-numbered file scratch totals taken);
-      reportCode = λ scratch totals rows greedys taken. code-said _ (report-numbered file scratch totals rows greedys taken);
+      billCode = λ set memory. code-said _ (bill-numbered file set memory);
+      planCode = λ memory. code-said _ (plan-numbered file memory);
+      greedyCode = λ memory. code-said _ (greedy-numbered file memory);
+      reportCode = λ memory. code-said _ (report-numbered file memory);
       billFits = λ set servings loads. both-fit servings loads (length-serving-nodes file set) (length-link-loads file set);
       planFits = λ totals rows. both-fit totals rows (length-plan-totals file) (length-plan-rows file);
-      greedyFits = λ totals taken. both-fit totals taken (length-greedy-totals file) (length-greedy-row file);
+      greedyFits = λ totals nodes. both-fit totals nodes (length-greedy-totals file) (length-greedy-row file);
       scratchStays = λ old new h. (h .0, same-from (scratchWords file) old new (h .1));
       scratchKept = λ q i old new h. h;
-      demandSettles = λ totals rows greedys h b l. only-optimum (treeOf file) (demandOf file) b _ _ _ (h b l);
+      demandSettles = λ memory h b l. only-optimum (treeOf file) (demandOf file) b _ _ _ (h b l);
+      decimalsRead = decimal-reads;
     }

@@ -1,6 +1,6 @@
 -- A host reads the whole verdict from its code: 0 just where no rule is broken, else the number and the record.
 use mathlib.Core.Path.{_≡_, refl, sym}
-use mathlib.Core.Bool.{Bool, true, false}
+use mathlib.Core.Bool.{Bool, true, false, _&&_}
 use mathlib.Core.List.{List}
 use Prim.Native.Nat.{ℕ, zero, suc, _/_, _%_, _<_}
 use native.Mathlib.Omega.{arith}
@@ -12,13 +12,18 @@ use Rattle.model.specs.Rules.{Verdict, passed, broken, ask, _then_, reco
 use Rattle.model.specs.Calls.{PlanMemory, planVerdict, GreedyMemory, greedyVerdict}
 use Rattle.model.specs.Report.{ReportMemory, reportVerdict}
 use Rattle.model.specs.Hosts.{codeUnit, codeOf, HostBillMemory, hostBillVerdict}
-use Rattle.model.specs.Laws.{isByte, Numbered}
 use Rattle.model.proofs.Verdicts.{broken≢passed}
 
 pub code-reads : (q i : ℕ) → q < codeUnit → (codeOf (broken q i) % codeUnit ≡ q) × (codeOf (broken q i) / codeUnit ≡ i)
 code-reads q i h = (omega arith, omega arith)
 
 -- ---- the number of a broken rule is one byte, and not 0
+
+abbrev isByte : ℕ → Bool
+isByte q = ltb 0 q && ltb q codeUnit
+
+pub record Numbered (v : Verdict) : Type 0 where
+  pub byte : (q i : ℕ) → v ≡ broken q i → isByte q ≡ true
 
 pub code-none : (v : Verdict) → Numbered v → codeOf v ≡ 0 → v ≡ passed
 code-none passed h e = refl

@@ -8,7 +8,7 @@ use native.Mathlib.Omega.{arith}
 use lib.ListN.{length, length-append}
 use borrow.Author.Tests.{lt-ltb, le-ltb}
 use Rattle.model.specs.Report.{digit, digits, decimal}
-use Rattle.model.specs.Laws.{readAfter}
+use Rattle.model.specs.CallLaws.{readAfter}
 
 -- ---- digit by digit
 

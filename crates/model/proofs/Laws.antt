@@ -1,15 +1,19 @@
--- The nine laws of specs/Laws hold of every accepted file.
+-- The laws of specs/Laws hold of every accepted file.
 use mathlib.Core.Path.{_≡_, refl}
 use mathlib.Core.Bool.{true}
 use mathlib.Core.List.{List}
 use Prim.Native.Nat.{ℕ}
+use native.Mathlib.Nat.{mul-le-mul}
 use Rattle.model.specs.File.{treeOf, demandOf}
+use Rattle.model.specs.Tree.{atOrBelow}
 use Rattle.model.specs.Rules.{fileVerdict, accepted}
+use Rattle.model.specs.Bill.{linkLoad}
 use Rattle.model.specs.Laws.{Lawful}
 use Rattle.model.proofs.Verdicts.{is-passed}
 use Rattle.model.proofs.Accepted.{accepted-sound}
 use Rattle.model.proofs.Nearest.{distance-grows, cost-is}
 use Rattle.model.proofs.Loads.{links-total}
+use Rattle.model.proofs.BillLaws.{serving-serves, only-serving, cost-least, cost-reached, load-said}
 use Rattle.model.proofs.Bounds.{total-bound}
 use Rattle.model.proofs.Sets.{all-sets}
 use Rattle.model.proofs.Order.{rank-irreflexive, rank-transitive, rank-total, ties-said}
@@ -18,7 +22,7 @@ use Rattle.model.proofs.WithNode.{has-with-node}
 use Rattle.model.proofs.GreedyRuns.{greedy-runs, greedy-prefix, only-greedy, greedy-is-set, greedy-within, greedy-no-less, greedy-set-has}
 
 pub lawful : (file : List ℕ) → accepted file ≡ true → Lawful (treeOf file) (demandOf file)
-unfolding accepted
+unfolding accepted linkLoad atOrBelow
 lawful file fits =
     let t = treeOf file in
     let d = demandOf file in
@@ -45,4 +49,12 @@ lawful file fits =
       greedySaid = greedy-runs t d;
       greedyPrefix = greedy-prefix t d;
       greedyOnly = only-greedy t d;
+      servingSaid = serving-serves t pre;
+      servingOnly = only-serving t pre;
+      costLeast = λ k. cost-least t pre k d;
+      costReached = λ k. cost-reached t pre k d;
+      loadSaid = λ k v z. load-said t pre k v z d;
+      serverLoad = λ k. refl;
+      priceExact = λ c v b. mul-le-mul (ok .hit c) (distance-grows t pre v c b);
+      loadExact = ok .hit;
     }

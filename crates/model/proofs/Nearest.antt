@@ -45,7 +45,7 @@ module _ (t : Tree) (pre : Preorder t) (k : List ℕ) where
 
   module _ (d : Demand) (c : ℕ) where
     -- a nearer node to the client costs it no more
-    price-falls : (v w : ℕ) → distance t w ≤ distance t v → price t d c v ≤ price t d c w
+    pub price-falls : (v w : ℕ) → distance t w ≤ distance t v → price t d c v ≤ price t d c w
     unfolding price
     price-falls v w h = mul-le-mul-left (d .flow c) (sub-le-sub-left (mul-le-mul-left (d .hit c) h) (thousandths * distance t c))
 

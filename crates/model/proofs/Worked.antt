@@ -10,38 +10,40 @@ use Rattle.model.specs.Bill.{price, cost, total, upTo, clientLoad, linkL
 use Rattle.model.specs.Ties.{smallerFirst, members, visits, tiesBefore, ranksBefore}
 use Rattle.model.specs.Plan.{setsOf, firstOf, plan}
 use Rattle.model.specs.Greedy.{withNode, withNodes, leastNode, stepOver, takenFrom}
-use Rattle.model.specs.Calls.{after, ScratchAfter, checkNumber, recordBytes, billVerdict, servingNodes, linkLoads, rankVerdict, ranking, planTotals, planRows, planVerdict, PlanCall, greedyTotals, greedyRow, greedyVerdict, GreedyCall}
-use Rattle.model.specs.Report.{setOfRow, reportVerdict, ReportCall, digits, decimal, line, reportText, refusalText, programVerdict, programText}
-use Rattle.model.specs.Hosts.{wordsAsked, hostBillVerdict, HostBillCall}
+use Rattle.model.specs.Calls.{after, ScratchAfter, checkNumber, recordBytes, billVerdict, servingNodes, linkLoads, rankVerdict, ranking, planTotals, planRows, PlanMemory, planVerdict, PlanCall, greedyTotals, greedyRow, GreedyMemory, greedyVerdict, GreedyCall}
+use Rattle.model.specs.Report.{setOfRow, ReportMemory, reportVerdict, ReportCall, digits, decimal, line, reportText, refusalText, programVerdict, programText}
+use Rattle.model.specs.Hosts.{wordsAsked, HostBillMemory, hostBillVerdict, HostBillCall}
 use Rattle.model.specs.Cases.{bytesOf, headerBytes, recordOf, treeA}
 use Rattle.model.specs.Worked.{fileA, largest, tooLong, Worked}
 
--- ---- a call's answer and buffers by its rules alone
+-- ---- what a call's statement settles
 
-host-bill-settled : {file set totals servings loads totals′ servings′ loads′ : List ℕ} {v : Verdict}
-    → HostBillCall file set totals servings loads v totals′ servings′ loads′
-    → let w = hostBillVerdict file set totals servings loads in
-    (v ≡ w) × (totals′ ≡ after w (total (treeOf file) (demandOf file) set ∷ []) totals)
-    × (servings′ ≡ after w (servingNodes file set) servings) × (loads′ ≡ after w (linkLoads file set) loads)
+host-bill-settled : {file set : List ℕ} {v : Verdict} {memory memory′ : HostBillMemory} → HostBillCall file set memory v memory′
+    → let w = hostBillVerdict file set memory in
+    (v ≡ w) × (memory′ .totals ≡ after w (total (treeOf file) (demandOf file) set ∷ []) (memory .totals))
+    × (memory′ .servings ≡ after w (servingNodes file set) (memory .servings)) × (memory′ .loads ≡ after w (linkLoads file set) (memory .loads))
 host-bill-settled c = rw (← c .verdict) (refl, c .totalsAfter, c .servingsAfter, c .loadsAfter)
 
-module _ {file scratch totals scratch′ totals′ : List ℕ} {v : Verdict} where
-  plan-settled : {rows rows′ : List ℕ} → PlanCall file scratch totals rows v scratch′ totals′ rows′
-      → let w = planVerdict file scratch totals rows in
-      (v ≡ w) × ScratchAfter w file scratch scratch′ × (totals′ ≡ after w (planTotals file) totals) × (rows′ ≡ after w (planRows file) rows)
+module _ {file : List ℕ} {v : Verdict} where
+  plan-settled : {memory memory′ : PlanMemory} → PlanCall file memory v memory′
+      → let w = planVerdict file memory in
+      (v ≡ w) × ScratchAfter w file (memory .scratch) (memory′ .scratch)
+      × (memory′ .totals ≡ after w (planTotals file) (memory .totals)) × (memory′ .rows ≡ after w (planRows file) (memory .rows))
   plan-settled c = rw (← c .verdict) (refl, c .scratchAfter, c .totalsAfter, c .rowsAfter)
 
-  greedy-settled : {taken taken′ : List ℕ} → GreedyCall file scratch totals taken v scratch′ totals′ taken′
-      → let w = greedyVerdict file scratch totals taken in
-      (v ≡ w) × ScratchAfter w file scratch scratch′ × (totals′ ≡ after w (greedyTotals file) totals) × (taken′ ≡ after w (greedyRow file) taken)
-  greedy-settled c = rw (← c .verdict) (refl, c .scratchAfter, c .totalsAfter, c .takenAfter)
+  greedy-settled : {memory memory′ : GreedyMemory} → GreedyCall file memory v memory′
+      → let w = greedyVerdict file memory in
+      (v ≡ w) × ScratchAfter w file (memory .scratch) (memory′ .scratch)
+      × (memory′ .totals ≡ after w (greedyTotals file) (memory .totals)) × (memory′ .nodes ≡ after w (greedyRow file) (memory .nodes))
+  greedy-settled c = rw (← c .verdict) (refl, c .scratchAfter, c .totalsAfter, c .nodesAfter)
 
-  report-settled : {rows greedys taken rows′ greedys′ taken′ : List ℕ}
-      → ReportCall file scratch totals rows greedys taken v scratch′ totals′ rows′ greedys′ taken′
-      → let w = reportVerdict file scratch totals rows greedys taken in
-      (v ≡ w) × ScratchAfter w file scratch scratch′ × (totals′ ≡ after w (planTotals file) totals) × (rows′ ≡ after w (planRows file) rows)
-      × (greedys′ ≡ after w (greedyTotals file) greedys) × (taken′ ≡ after w (greedyRow file) taken)
-  report-settled c = rw (← c .verdict) (refl, c .scratchAfter, c .totalsAfter, c .rowsAfter, c .greedysAfter, c .takenAfter)
+  report-settled : {memory memory′ : ReportMemory} → ReportCall file memory v memory′
+      → let w = reportVerdict file memory in
+      (v ≡ w) × ScratchAfter w file (memory .scratch) (memory′ .scratch)
+      × (memory′ .planTotals ≡ after w (planTotals file) (memory .planTotals)) × (memory′ .planRows ≡ after w (planRows file) (memory .planRows))
+      × (memory′ .greedyTotals ≡ after w (greedyTotals file) (memory .greedyTotals)) × (memory′ .greedyNodes ≡ after w (greedyRow file) (memory .greedyNodes))
+  report-settled c =
+      rw (← c .verdict) (refl, c .scratchAfter, c .planTotalsAfter, c .planRowsAfter, c .greedyTotalsAfter, c .greedyNodesAfter)
 
 -- ---- the cases
 
@@ -97,6 +99,7 @@ worked = record {
   calls = record {
     largestTotal = refl;
     largestSaved = refl;
+    totalsBelow = refl;
     setPasses = refl;
     setOver = refl;
     setOfServer = refl;
@@ -109,6 +112,7 @@ worked = record {
     servingsOfOne = refl;
     servingsOfTwo = refl;
     loadsOfTwo = refl;
+    loadOnLengthZero = refl;
     entriesStay = refl;
     refusalKeeps = refl;
     lessIsFirst = refl;
@@ -140,7 +144,7 @@ worked = record {
     greedyPasses = refl;
     greedyScratchShort = refl;
     greedyTotalsShort = refl;
-    greedyTakenShort
+    greedyNodesShort
         = refl;
     greedyFileFirst = refl;
     reportPasses = refl;

@@ -22,7 +22,7 @@ upTo v (u ∷ us) = let r = upTo v us in u ∷ cond (eqb u v) [] r
 
 module _ (t : Tree) (d : Demand) where
   -- f × (1,000 × d(c) − p × d(v)): what the client at c would cost if v served it. For v on the route of c and an accepted
-  -- file no difference is cut off at 0: law `nothing-cut-off`.
+  -- file no difference is cut off at 0 (law m).
   unfoldable pub price : ℕ → ℕ → ℕ
   price c v = d .flow c * (thousandths * distance t c - d .hit c * distance t v)
 
@@ -35,7 +35,7 @@ module _ (t : Tree) (d : Demand) where
   total k = sum (cost k) (nodes t)
 
   -- what the client at c puts on the link above v, at or below which it is: f × (1,000 − p) "if K has a node from c up to
-  -- v inclusive", else f × 1,000. On an accepted file no difference is cut off at 0: law `nothing-cut-off`.
+  -- v inclusive", else f × 1,000. On an accepted file no difference is cut off at 0 (law m).
   unfoldable pub clientLoad : List ℕ → ℕ → ℕ → ℕ
   clientLoad k v c = d .flow c * cond (anyOf (has k) (upTo v (route t c))) (thousandths - d .hit c) thousandths
 

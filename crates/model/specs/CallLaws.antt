@@ -1,23 +1,24 @@
--- Laws of the calls: the ranking and its winner, a host's codes, the buffers that question 14 asks for, the scratch after a
--- call, and that demand 3 leaves no choice.
+-- Laws of the calls, proved for every file (`calls-lawful` in proofs/CallLaws): the ranking and its winner, a host's codes, the
+-- buffers that question 14 asks for, the scratch after a call, that demand 3 leaves no choice, and printed numbers.
 use mathlib.Core.Path.{_≡_}
 use mathlib.Core.Bool.{true, false}
-use mathlib.Core.List.{List, []}
+use mathlib.Core.List.{List, [], _∷_}
 use mathlib.Core.Logic.{_↔_}
-use Prim.Native.Nat.{ℕ, _/_, _%_, _≤_}
+use Prim.Native.Nat.{ℕ, _+_, _*_, _-_, _/_, _%_, _≤_}
 use lib.ListN.{length, getD}
 use Rattle.model.specs.File.{treeOf, demandOf, budgetOf}
 use Rattle.model.specs.Rules.{Verdict, passed, broken, scratchWords}
+use Rattle.model.specs.Bill.{linkTotal}
 use Rattle.model.specs.Ties.{ranksBefore}
 use Rattle.model.specs.Plan.{plan, planTotal}
 use Rattle.model.specs.Greedy.{greedyTotal}
-use Rattle.model.specs.Calls.{answered, refused, first, second, ScratchAfter, billBuffersLong, servingNodes, linkLoads, rankVerdict, ranking, winner, planTotals, planRows, planBuffersLong, planVerdict, greedyTotals, greedyRow, greedyBuffersLong, greedyVerdict}
-use Rattle.model.specs.Report.{setOfRow, DemandThree, reportVerdict}
-use Rattle.model.specs.Hosts.{codeOf, hostBillVerdict}
+use Rattle.model.specs.Calls.{answered, refused, first, second, ScratchAfter, billBuffersLong, servingNodes, linkLoads, rankVerdict, ranking, winner, planTotals, planRows, planBuffersLong, PlanMemory, planVerdict, greedyTotals, greedyRow, greedyBuffersLong, GreedyMemory, greedyVerdict}
+use Rattle.model.specs.Report.{setOfRow, ReportMemory, DemandThree, reportVerdict, digit, decimal}
+use Rattle.model.specs.Hosts.{codeOf, HostBillMemory, hostBillVerdict}
 
 -- the ranking of K and L in a file, and its winner
 pub record RankingSaid (file k l : List ℕ) : Type 0 where
-  -- first, just where both may be ranked and L does not rank before K ("equal sets: first")
+  -- first, just where no rule is broken and L does not rank before K ("equal sets: first")
   pub firstSaid : ranking file k l ≡ answered first
       ↔ ((rankVerdict file k l ≡ passed) × (ranksBefore (treeOf file) (demandOf file) l k ≡ false))
   -- second, just where L does
@@ -35,26 +36,40 @@ pub record CodeSaid (v : Verdict) : Type 0 where
   pub none : codeOf v ≡ 0 ↔ v ≡ passed
   pub some : (q i : ℕ) → v ≡ broken q i → (codeOf v % 256 ≡ q) × (codeOf v / 256 ≡ i)
 
+-- the number that a text of digits stands for, after a number x already read
+unfoldable pub readAfter : ℕ → List ℕ → ℕ
+readAfter x [] = x
+readAfter x (c ∷ cs) = readAfter (10 * x + (c - digit 0)) cs
+
 -- of a file, with any sets, buffers and scratch
 pub record CallsLawful (file : List ℕ) : Type 0 where
   pub rankings : (k l : List ℕ) → RankingSaid file k l
-  pub billCode : (set totals servings loads : List ℕ) → CodeSaid (hostBillVerdict file set totals servings loads)
-  pub planCode : (scratch totals rows : List ℕ) → CodeSaid (planVerdict file scratch totals rows)
-  pub greedyCode : (scratch totals taken : List ℕ) → CodeSaid (greedyVerdict file scratch totals taken)
-  pub reportCode : (scratch totals rows greedys taken : List ℕ) → CodeSaid (reportVerdict file scratch totals rows greedys taken)
+  -- a host's code of the bill, the plan, the greedy rule and the report
+  pub billCode : (set : List ℕ) (memory : HostBillMemory) → CodeSaid (hostBillVerdict file set memory)
+  pub planCode : (memory : PlanMemory) → CodeSaid (planVerdict file memory)
+  pub greedyCode : (memory : GreedyMemory) → CodeSaid (greedyVerdict file memory)
+  pub reportCode : (memory : ReportMemory) → CodeSaid (reportVerdict file memory)
   -- "Is every answer buffer long enough?": for what the call writes
   pub billFits : (set servings loads : List ℕ) → billBuffersLong file servings loads ≡ true
       ↔ ((length (servingNodes file set) ≤ length servings) × (length (linkLoads file set) ≤ length loads))
   pub planFits : (totals rows : List ℕ) → planBuffersLong file totals rows ≡ true
       ↔ ((length (planTotals file) ≤ length totals) × (length (planRows file) ≤ length rows))
-  pub greedyFits : (totals taken : List ℕ) → greedyBuffersLong file totals taken ≡ true
-      ↔ ((length (greedyTotals file) ≤ length totals) × (length (greedyRow file) ≤ length taken))
+  pub greedyFits : (totals nodes : List ℕ) → greedyBuffersLong file totals nodes ≡ true
+      ↔ ((length (greedyTotals file) ≤ length totals) × (length (greedyRow file) ≤ length nodes))
   -- "Only scratch after an accepted call is free": its first words; the others and the length stay, and a refusal keeps all
   pub scratchStays : (old new : List ℕ) → ScratchAfter passed file old new
       → (length new ≡ length old) × ((i : ℕ) → scratchWords file ≤ i → getD new i 0 ≡ getD old i 0)
   pub scratchKept : (q i : ℕ) (old new : List ℕ) → ScratchAfter (broken q i) file old new → new ≡ old
-  -- Demand 3 leaves no choice: at each budget one set and two totals meet it.
-  pub demandSettles : (totals rows greedys : List ℕ) → DemandThree file totals rows greedys → (b : ℕ) → b ≤ budgetOf file
-      → (setOfRow (budgetOf file) rows b ≡ plan (treeOf file) (demandOf file) b)
-      × (getD totals b 0 ≡ planTotal (treeOf file) (demandOf file) b)
-      × (getD greedys b 0 ≡ greedyTotal (treeOf file) (demandOf file) b)
+  -- Demand 3 leaves no choice: at each budget one set and two totals meet it. The first is the sum over links, and no more
+  -- than the second.
+  pub demandSettles : (memory : ReportMemory) → DemandThree file memory → (b : ℕ) → b ≤ budgetOf file
+      → let held = setOfRow (budgetOf file) (memory .planRows) b in
+      let planHeld = getD (memory .planTotals) b 0 in
+      let greedyHeld = getD (memory .greedyTotals) b 0 in
+      (held ≡ plan (treeOf file) (demandOf file) b)
+      × (planHeld ≡ planTotal (treeOf file) (demandOf file) b)
+      × (greedyHeld ≡ greedyTotal (treeOf file) (demandOf file) b)
+      × (planHeld ≡ linkTotal (treeOf file) (demandOf file) held)
+      × (planHeld ≤ greedyHeld)
+  -- The printed digits of a number read back as the number.
+  pub decimalsRead : (x : ℕ) → readAfter 0 (decimal x) ≡ x

@@ -1,22 +1,19 @@
--- The nine laws of the definitions, a to i, on one page. They are proved for every accepted file: `lawful` in proofs/Laws.
--- After them the words in which two more laws are told: of the decimal text, and of the codes that hosts read.
+-- The laws of the definitions, a to m, on one page. They are proved for every accepted file: `lawful` in proofs/Laws.
 use mathlib.Core.Path.{_≡_}
-use mathlib.Core.Bool.{Bool, true, false, _&&_, _||_}
-use mathlib.Core.List.{List, [], _∷_, List·Memᴰ}
+use mathlib.Core.Bool.{true, false, _||_}
+use mathlib.Core.List.{List, [], List·Memᴰ}
 use mathlib.Core.Logic.{_↔_, _⊎_}
-use Prim.Native.Nat.{ℕ, _+_, _*_, _-_, _≤_, _<_}
-use lib.Dec.{ltb, eqb}
+use Prim.Native.Nat.{ℕ, _*_, _-_, _≤_, _<_}
+use lib.Dec.{eqb}
 use lib.ListN.{length, take, getD}
-use Rattle.laws.specs.Lists.{has, howMany}
+use Rattle.laws.specs.Lists.{sum, has, howMany}
 use Rattle.model.specs.File.{Tree, Demand}
-use Rattle.model.specs.Tree.{route, distance}
-use Rattle.model.specs.Rules.{Verdict, broken, isSet}
-use Rattle.model.specs.Bill.{totalLimit, price, cost, total, linkTotal, serving}
+use Rattle.model.specs.Tree.{server, nodes, route, atOrBelow, distance}
+use Rattle.model.specs.Rules.{isSet}
+use Rattle.model.specs.Bill.{totalLimit, price, cost, total, linkLoad, linkTotal, serving}
 use Rattle.model.specs.Ties.{tiesBefore, ranksBefore}
 use Rattle.model.specs.Plan.{allSets, plan, planTotal}
 use Rattle.model.specs.Greedy.{withNode, withNodes, greedyNodes, greedySet, greedyTotal}
-use Rattle.model.specs.Report.{digit}
-use Rattle.model.specs.Hosts.{codeUnit}
 
 -- ---- for law e: the first of all sets of at most b nodes
 
@@ -74,6 +71,28 @@ pub record RunFrom (t : Tree) (d : Demand) (k : List ℕ) (b : ℕ) (g : List �
 abbrev pub GreedyRun : Tree → Demand → ℕ → List ℕ → Type 0
 GreedyRun t d b g = RunFrom t d [] b g
 
+-- ---- for laws j and l: serving nodes and link loads, said without recursion over a route
+
+-- s is "the first member of K met going up from the node, itself included, else 0"
+pub record Serves (t : Tree) (k : List ℕ) (v s : ℕ) : Type 0 where
+  pub onRoute : atOrBelow t s v ≡ true
+  pub member : (has k s ≡ true) ⊎ (s ≡ server)
+  -- every member on the way from v to the server is s or comes after it
+  pub nearest : (u : ℕ) → has k u ≡ true → atOrBelow t u v ≡ true → atOrBelow t u s ≡ true
+
+-- "K has a node from c up to v inclusive"
+abbrev pub CacheBetween : Tree → List ℕ → ℕ → ℕ → Type 0
+CacheBetween t k c v = (u : ℕ) × (has k u ≡ true) × (atOrBelow t u c ≡ true) × (atOrBelow t v u ≡ true)
+
+-- x is what the client at c puts on the link above v
+pub record PutsOn (t : Tree) (d : Demand) (k : List ℕ) (c v x : ℕ) : Type 0 where
+  -- only "clients c at or below v"
+  pub elsewhere : atOrBelow t v c ≡ false → x ≡ 0
+  -- "f × (1,000 − p) if K has a node from c up to v inclusive"
+  pub relieved : CacheBetween t k c v → x ≡ d .flow c * (1000 - d .hit c)
+  -- "else f × 1,000"
+  pub whole : atOrBelow t v c ≡ true → (CacheBetween t k c v → ⊥) → x ≡ d .flow c * 1000
+
 -- ---- the laws
 
 pub record Lawful (t : Tree) (d : Demand) : Type 0 where
@@ -110,19 +129,18 @@ pub record Lawful (t : Tree) (d : Demand) : Type 0 where
   pub greedySaid : (b : ℕ) → GreedyRun t d b (greedyNodes t d b)
   pub greedyPrefix : (b j : ℕ) → j ≤ b → take j (greedyNodes t d b) ≡ greedyNodes t d j
   pub greedyOnly : (b : ℕ) (g : List ℕ) → GreedyRun t d b g → g ≡ greedyNodes t d b
-
--- ---- for `decimal-reads`: the digits that are printed read back as the number
-
--- the number that a text of digits stands for, after a number x already read
-unfoldable pub readAfter : ℕ → List ℕ → ℕ
-readAfter x [] = x
-readAfter x (c ∷ cs) = readAfter (10 * x + (c - digit 0)) cs
-
--- ---- for `bill-numbered` and its kin: a host reads the number of a broken rule from the code's last byte
-
--- q fits one byte, and is not 0
-abbrev pub isByte : ℕ → Bool
-isByte q = ltb 0 q && ltb q codeUnit
-
-pub record Numbered (v : Verdict) : Type 0 where
-  pub byte : (q i : ℕ) → v ≡ broken q i → isByte q ≡ true
+  -- j. The serving node is the first member of K met going up, itself included, else the server, and no other node is.
+  pub servingSaid : (k : List ℕ) (v : ℕ) → Serves t k v (serving t k v)
+  pub servingOnly : (k : List ℕ) (v s : ℕ) → Serves t k v s → s ≡ serving t k v
+  -- k. A client's cost is "the least over v on its route (c itself and the server included; v in K or the server)": none costs
+  -- less, and one costs it.
+  pub costLeast : (k : List ℕ) (c v : ℕ) → atOrBelow t v c ≡ true → (has k v ≡ true) ⊎ (v ≡ server) → cost t d k c ≤ price t d c v
+  pub costReached : (k : List ℕ) (c : ℕ)
+      → (v : ℕ) × (atOrBelow t v c ≡ true) × ((has k v ≡ true) ⊎ (v ≡ server)) × (cost t d k c ≡ price t d c v)
+  -- l. The load above each single link, also one of length 0, is the sum of what each client puts there; node 0 has load 0.
+  pub loadSaid : (k : List ℕ) (v : ℕ) → 1 ≤ v
+      → (puts : ℕ → ℕ) × ((c : ℕ) → PutsOn t d k c v (puts c)) × (linkLoad t d k v ≡ sum puts (nodes t))
+  pub serverLoad : (k : List ℕ) → linkLoad t d k server ≡ 0
+  -- m. No difference in a price or a load is cut off at 0.
+  pub priceExact : (c v : ℕ) → atOrBelow t v c ≡ true → d .hit c * distance t v ≤ 1000 * distance t c
+  pub loadExact : (c : ℕ) → d .hit c ≤ 1000

@@ -2,7 +2,6 @@ pub mod File
 pub mod Tree
 pub mod Rules
 pub mod Bill
-pub mod BillLaws
 pub mod Ties
 pub mod Plan
 pub mod Greedy

@@ -8,10 +8,10 @@ use lib.ListN.{length, take, drop, replicate}
 use Rattle.laws.specs.Lists.{range}
 use Rattle.model.specs.File.{fieldTable, treeOf, demandOf}
 use Rattle.model.specs.Rules.{Verdict, passed, broken, fileVerdict, scratchWords}
-use Rattle.model.specs.Bill.{total}
-use Rattle.model.specs.Calls.{Answer, answered, refused, after, checkNumber, recordBytes, billVerdict, servingNodes, linkLoads, BillCall, first, second, ranking, winner, planTotals, planRows, planVerdict, PlanCall, greedyTotals, greedyRow, greedyVerdict, GreedyCall}
-use Rattle.model.specs.Report.{setOfRow, reportVerdict, ReportCall, isSmall, programVerdict, programText}
-use Rattle.model.specs.Hosts.{codeOf, wordsAsked, hostBillVerdict, HostBillCall}
+use Rattle.model.specs.Bill.{totalLimit, total}
+use Rattle.model.specs.Calls.{Answer, answered, refused, after, checkNumber, recordBytes, billVerdict, servingNodes, linkLoads, BillMemory, BillCall, first, second, ranking, winner, planTotals, planRows, PlanMemory, planVerdict, PlanCall, greedyTotals, greedyRow, GreedyMemory, greedyVerdict, GreedyCall}
+use Rattle.model.specs.Report.{setOfRow, ReportMemory, reportVerdict, ReportCall, isSmall, programVerdict, programText}
+use Rattle.model.specs.Hosts.{codeOf, wordsAsked, HostBillMemory, hostBillVerdict, HostBillCall}
 use Rattle.model.specs.Cases.{treeA}
 
 -- ---- the files
@@ -126,25 +126,54 @@ pub record FileCases : Type 0 where
 
 -- ---- the calls
 
+-- lent memory of so many entries in each buffer, every entry 7
+abbrev pub billMemory : ℕ → ℕ → BillMemory
+billMemory servings loads = record { servings = replicate servings 7; loads = replicate loads 7 }
+
+abbrev pub hostBillMemory : ℕ → ℕ → ℕ → HostBillMemory
+hostBillMemory totals servings loads =
+    record { totals = replicate totals 7; servings = replicate servings 7; loads = replicate loads 7 }
+
+abbrev pub planMemory : ℕ → ℕ → ℕ → PlanMemory
+planMemory scratch totals rows = record { scratch = replicate scratch 7; totals = replicate totals 7; rows = replicate rows 7 }
+
+abbrev pub greedyMemory : ℕ → ℕ → ℕ → GreedyMemory
+greedyMemory scratch totals nodes =
+    record { scratch = replicate scratch 7; totals = replicate totals 7; nodes = replicate nodes 7 }
+
+abbrev pub reportMemory : ℕ → ℕ → ℕ → ℕ → ℕ → ReportMemory
+reportMemory scratch planTotals planRows greedyTotals greedyNodes =
+    record {
+      scratch = replicate scratch 7;
+      planTotals = replicate planTotals 7;
+      planRows = replicate planRows 7;
+      greedyTotals = replicate greedyTotals 7;
+      greedyNodes = replicate greedyNodes 7;
+    }
+
 pub record CallCases : Type 0 where
   -- 100,000,000 × 1,000 × 1,000; all of it is saved by a cache with hit 1,000
   pub largestTotal : total (treeOf largest) (demandOf largest) [] ≡ 100_000_000_000_000
   pub largestSaved : total (treeOf largest) (demandOf largest) (1 ∷ []) ≡ 0
+  -- "below 2^62"
+  pub totalsBelow : totalLimit ≡ 4_611_686_018_427_387_904
   -- 12: a set is strictly ascending, each from 1 to n − 1
-  pub setPasses : billVerdict fileA (1 ∷ 4 ∷ []) (replicate 5 0) (replicate 5 0) ≡ passed
-  pub setOver : billVerdict fileA (5 ∷ []) (replicate 5 0) (replicate 5 0) ≡ broken 12 0
-  pub setOfServer : billVerdict fileA (0 ∷ []) (replicate 5 0) (replicate 5 0) ≡ broken 12 0
-  pub setTwice : billVerdict fileA (1 ∷ 1 ∷ []) (replicate 5 0) (replicate 5 0) ≡ broken 12 0
-  pub setDescends : billVerdict fileA (2 ∷ 1 ∷ []) (replicate 5 0) (replicate 5 0) ≡ broken 12 0
+  pub setPasses : billVerdict fileA (1 ∷ 4 ∷ []) (billMemory 5 5) ≡ passed
+  pub setOver : billVerdict fileA (5 ∷ []) (billMemory 5 5) ≡ broken 12 0
+  pub setOfServer : billVerdict fileA (0 ∷ []) (billMemory 5 5) ≡ broken 12 0
+  pub setTwice : billVerdict fileA (1 ∷ 1 ∷ []) (billMemory 5 5) ≡ broken 12 0
+  pub setDescends : billVerdict fileA (2 ∷ 1 ∷ []) (billMemory 5 5) ≡ broken 12 0
   -- 14: n entries each; the order of 1 to 11, 12 and 14
-  pub servingsShort : billVerdict fileA (1 ∷ []) (replicate 4 0) (replicate 5 0) ≡ broken 14 0
-  pub loadsShort : billVerdict fileA (1 ∷ []) (replicate 5 0) (replicate 4 0) ≡ broken 14 0
-  pub setBeforeBuffers : billVerdict fileA (5 ∷ []) [] [] ≡ broken 12 0
-  pub fileBeforeSet : billVerdict tooLong (5 ∷ []) [] [] ≡ broken 9 1
+  pub servingsShort : billVerdict fileA (1 ∷ []) (billMemory 4 5) ≡ broken 14 0
+  pub loadsShort : billVerdict fileA (1 ∷ []) (billMemory 5 4) ≡ broken 14 0
+  pub setBeforeBuffers : billVerdict fileA (5 ∷ []) (billMemory 0 0) ≡ broken 12 0
+  pub fileBeforeSet : billVerdict tooLong (5 ∷ []) (billMemory 0 0) ≡ broken 9 1
   -- what the bill of {1} and of {2, 4} writes
   pub servingsOfOne : servingNodes fileA (1 ∷ []) ≡ 0 ∷ 1 ∷ 1 ∷ 1 ∷ 0 ∷ []
   pub servingsOfTwo : servingNodes fileA (2 ∷ 4 ∷ []) ≡ 0 ∷ 0 ∷ 2 ∷ 0 ∷ 4 ∷ []
   pub loadsOfTwo : linkLoads fileA (2 ∷ 4 ∷ []) ≡ 0 ∷ 20000 ∷ 0 ∷ 20000 ∷ 1000 ∷ []
+  -- a link of length 0 has its load too
+  pub loadOnLengthZero : linkLoads (twoNodes (tenBytes 0x00 0x00 0x00 0x00 0x00 0x00 0x00 0x04 0x03 0xE8)) [] ≡ 0 ∷ 4000 ∷ []
   -- "Entries beyond those written stay"; a refusal writes nothing
   pub entriesStay : after passed (1 ∷ 2 ∷ []) (7 ∷ 8 ∷ 9 ∷ []) ≡ 1 ∷ 2 ∷ 9 ∷ []
   pub refusalKeeps : after (broken 14 0) (1 ∷ 2 ∷ []) (7 ∷ []) ≡ 7 ∷ []
@@ -173,21 +202,21 @@ pub record CallCases : Type 0 where
   pub setOfRowTwo : setOfRow 2 (0 ∷ 0 ∷ 1 ∷ 0 ∷ 2 ∷ 3 ∷ []) 2 ≡ 2 ∷ 3 ∷ []
   -- "65 words pass, 64 give 13"; 9 nodes of height 8 with k 1: 9 × 9 × 2 + 4 × 9
   pub scratchOfChain : scratchWords (header 0x00 0x09 0x00 0x01 ++ serverRecord ++ chained 8) ≡ 198
-  pub planPasses : planVerdict fileA (replicate 65 0) (replicate 3 0) (replicate 6 0) ≡ passed
-  pub planScratchShort : planVerdict fileA (replicate 64 0) [] [] ≡ broken 13 0
-  pub planTotalsShort : planVerdict fileA (replicate 65 0) (replicate 2 0) (replicate 6 0) ≡ broken 14 0
-  pub planRowsShort : planVerdict fileA (replicate 65 0) (replicate 3 0) (replicate 5 0) ≡ broken 14 0
-  pub planFileFirst : planVerdict tooLong [] [] [] ≡ broken 9 1
-  pub greedyPasses : greedyVerdict fileA (replicate 65 0) (replicate 3 0) (replicate 2 0) ≡ passed
-  pub greedyScratchShort : greedyVerdict fileA (replicate 64 0) [] [] ≡ broken 13 0
-  pub greedyTotalsShort : greedyVerdict fileA (replicate 65 0) (replicate 2 0) (replicate 2 0) ≡ broken 14 0
-  pub greedyTakenShort : greedyVerdict fileA (replicate 65 0) (replicate 3 0) (replicate 1 0) ≡ broken 14 0
-  pub greedyFileFirst : greedyVerdict tooLong [] [] [] ≡ broken 9 1
-  pub reportPasses : reportVerdict fileA (replicate 65 0) (replicate 3 0) (replicate 6 0) (replicate 3 0) (replicate 2 0) ≡ passed
-  pub reportScratchShort : reportVerdict fileA (replicate 64 0) [] [] [] [] ≡ broken 13 0
-  pub reportPlanShort : reportVerdict fileA (replicate 65 0) (replicate 3 0) (replicate 5 0) (replicate 3 0) (replicate 2 0) ≡ broken 14 0
-  pub reportGreedyShort : reportVerdict fileA (replicate 65 0) (replicate 3 0) (replicate 6 0) (replicate 3 0) (replicate 1 0) ≡ broken 14 0
-  pub reportFileFirst : reportVerdict tooLong [] [] [] [] [] ≡ broken 9 1
+  pub planPasses : planVerdict fileA (planMemory 65 3 6) ≡ passed
+  pub planScratchShort : planVerdict fileA (planMemory 64 0 0) ≡ broken 13 0
+  pub planTotalsShort : planVerdict fileA (planMemory 65 2 6) ≡ broken 14 0
+  pub planRowsShort : planVerdict fileA (planMemory 65 3 5) ≡ broken 14 0
+  pub planFileFirst : planVerdict tooLong (planMemory 0 0 0) ≡ broken 9 1
+  pub greedyPasses : greedyVerdict fileA (greedyMemory 65 3 2) ≡ passed
+  pub greedyScratchShort : greedyVerdict fileA (greedyMemory 64 0 0) ≡ broken 13 0
+  pub greedyTotalsShort : greedyVerdict fileA (greedyMemory 65 2 2) ≡ broken 14 0
+  pub greedyNodesShort : greedyVerdict fileA (greedyMemory 65 3 1) ≡ broken 14 0
+  pub greedyFileFirst : greedyVerdict tooLong (greedyMemory 0 0 0) ≡ broken 9 1
+  pub reportPasses : reportVerdict fileA (reportMemory 65 3 6 3 2) ≡ passed
+  pub reportScratchShort : reportVerdict fileA (reportMemory 64 0 0 0 0) ≡ broken 13 0
+  pub reportPlanShort : reportVerdict fileA (reportMemory 65 3 5 3 2) ≡ broken 14 0
+  pub reportGreedyShort : reportVerdict fileA (reportMemory 65 3 6 3 1) ≡ broken 14 0
+  pub reportFileFirst : reportVerdict tooLong (reportMemory 0 0 0 0 0) ≡ broken 9 1
   -- "A C host passes a file's bytes and gets 0 or the number"; a code is record × 256 + number
   pub hostHearsNone : checkNumber fileA ≡ 0
   pub hostHears : checkNumber tooLong ≡ 9
@@ -196,51 +225,45 @@ pub record CallCases : Type 0 where
   pub wordsOfA : wordsAsked fileA ≡ 65
   pub wordsOfRefused : wordsAsked tooLong ≡ 0
   -- a host's bill: the buffer of the total has one entry
-  pub hostBillPasses : hostBillVerdict fileA (1 ∷ []) (replicate 1 0) (replicate 5 0) (replicate 5 0) ≡ passed
-  pub hostTotalShort : hostBillVerdict fileA (1 ∷ []) [] (replicate 5 0) (replicate 5 0) ≡ broken 14 0
-  pub hostLoadsShort : hostBillVerdict fileA (1 ∷ []) (replicate 1 0) (replicate 5 0) (replicate 4 0) ≡ broken 14 0
-  pub hostSetFirst : hostBillVerdict fileA (5 ∷ []) [] [] [] ≡ broken 12 0
-  pub hostFileFirst : hostBillVerdict tooLong (5 ∷ []) [] [] [] ≡ broken 9 1
+  pub hostBillPasses : hostBillVerdict fileA (1 ∷ []) (hostBillMemory 1 5 5) ≡ passed
+  pub hostTotalShort : hostBillVerdict fileA (1 ∷ []) (hostBillMemory 0 5 5) ≡ broken 14 0
+  pub hostLoadsShort : hostBillVerdict fileA (1 ∷ []) (hostBillMemory 1 5 4) ≡ broken 14 0
+  pub hostSetFirst : hostBillVerdict fileA (5 ∷ []) (hostBillMemory 0 0 0) ≡ broken 12 0
+  pub hostFileFirst : hostBillVerdict tooLong (5 ∷ []) (hostBillMemory 0 0 0) ≡ broken 9 1
 
 -- what a call that keeps its statement hands back, however it works: the 7s beyond what it writes stay, a refusal keeps all
 pub record StatementCases : Type 0 where
-  pub billSettled : {a : Answer ℕ} {servings′ loads′ : List ℕ}
-      → BillCall fileA (1 ∷ []) (replicate 6 7) (replicate 6 7) a servings′ loads′
+  pub billSettled : {a : Answer ℕ} {memory′ : BillMemory} → BillCall fileA (1 ∷ []) (billMemory 6 6) a memory′
       → (a ≡ answered 60000)
-      × (servings′ ≡ 0 ∷ 1 ∷ 1 ∷ 1 ∷ 0 ∷ 7 ∷ [])
-      × (loads′ ≡ 0 ∷ 0 ∷ 20000 ∷ 20000 ∷ 5000 ∷ 7 ∷ [])
-  pub billRefused : {a : Answer ℕ} {servings loads servings′ loads′ : List ℕ}
-      → BillCall tooLong [] servings loads a servings′ loads′
-      → (a ≡ refused 9 1) × (servings′ ≡ servings) × (loads′ ≡ loads)
-  pub hostBillSettled : {v : Verdict} {totals′ servings′ loads′ : List ℕ}
-      → HostBillCall fileA (1 ∷ []) (replicate 2 7) (replicate 6 7) (replicate 6 7) v totals′ servings′ loads′
+      × (memory′ .servings ≡ 0 ∷ 1 ∷ 1 ∷ 1 ∷ 0 ∷ 7 ∷ [])
+      × (memory′ .loads ≡ 0 ∷ 0 ∷ 20000 ∷ 20000 ∷ 5000 ∷ 7 ∷ [])
+  pub billRefused : {a : Answer ℕ} {memory memory′ : BillMemory} → BillCall tooLong [] memory a memory′
+      → (a ≡ refused 9 1) × (memory′ .servings ≡ memory .servings) × (memory′ .loads ≡ memory .loads)
+  pub hostBillSettled : {v : Verdict} {memory′ : HostBillMemory} → HostBillCall fileA (1 ∷ []) (hostBillMemory 2 6 6) v memory′
       → (v ≡ passed)
-      × (totals′ ≡ 60000 ∷ 7 ∷ [])
-      × (servings′ ≡ 0 ∷ 1 ∷ 1 ∷ 1 ∷ 0 ∷ 7 ∷ [])
-      × (loads′ ≡ 0 ∷ 0 ∷ 20000 ∷ 20000 ∷ 5000 ∷ 7 ∷ [])
-  pub planSettled : {v : Verdict} {scratch′ totals′ rows′ : List ℕ}
-      → PlanCall fileA (replicate 66 7) (replicate 4 7) (replicate 7 7) v scratch′ totals′ rows′
+      × (memory′ .totals ≡ 60000 ∷ 7 ∷ [])
+      × (memory′ .servings ≡ 0 ∷ 1 ∷ 1 ∷ 1 ∷ 0 ∷ 7 ∷ [])
+      × (memory′ .loads ≡ 0 ∷ 0 ∷ 20000 ∷ 20000 ∷ 5000 ∷ 7 ∷ [])
+  pub planSettled : {v : Verdict} {memory′ : PlanMemory} → PlanCall fileA (planMemory 66 4 7) v memory′
       → (v ≡ passed)
-      × (length scratch′ ≡ 66) × (drop 65 scratch′ ≡ 7 ∷ [])
-      × (totals′ ≡ 140000 ∷ 60000 ∷ 20000 ∷ 7 ∷ [])
-      × (rows′ ≡ 0 ∷ 0 ∷ 1 ∷ 0 ∷ 2 ∷ 3 ∷ 7 ∷ [])
-  pub planRefused : {v : Verdict} {scratch totals rows scratch′ totals′ rows′ : List ℕ}
-      → PlanCall tooLong scratch totals rows v scratch′ totals′ rows′
-      → (v ≡ broken 9 1) × (scratch′ ≡ scratch) × (totals′ ≡ totals) × (rows′ ≡ rows)
-  pub greedySettled : {v : Verdict} {scratch′ totals′ taken′ : List ℕ}
-      → GreedyCall fileA (replicate 66 7) (replicate 4 7) (replicate 3 7) v scratch′ totals′ taken′
+      × (length (memory′ .scratch) ≡ 66) × (drop 65 (memory′ .scratch) ≡ 7 ∷ [])
+      × (memory′ .totals ≡ 140000 ∷ 60000 ∷ 20000 ∷ 7 ∷ [])
+      × (memory′ .rows ≡ 0 ∷ 0 ∷ 1 ∷ 0 ∷ 2 ∷ 3 ∷ 7 ∷ [])
+  pub planRefused : {v : Verdict} {memory memory′ : PlanMemory} → PlanCall tooLong memory v memory′
+      → (v ≡ broken 9 1)
+      × (memory′ .scratch ≡ memory .scratch) × (memory′ .totals ≡ memory .totals) × (memory′ .rows ≡ memory .rows)
+  pub greedySettled : {v : Verdict} {memory′ : GreedyMemory} → GreedyCall fileA (greedyMemory 66 4 3) v memory′
       → (v ≡ passed)
-      × (length scratch′ ≡ 66) × (drop 65 scratch′ ≡ 7 ∷ [])
-      × (totals′ ≡ 140000 ∷ 60000 ∷ 40000 ∷ 7 ∷ [])
-      × (taken′ ≡ 1 ∷ 2 ∷ 7 ∷ [])
-  pub reportSettled : {v : Verdict} {scratch′ totals′ rows′ greedys′ taken′ : List ℕ}
-      → ReportCall fileA (replicate 66 7) (replicate 4 7) (replicate 7 7) (replicate 4 7) (replicate 3 7) v scratch′ totals′ rows′ greedys′ taken′
+      × (length (memory′ .scratch) ≡ 66) × (drop 65 (memory′ .scratch) ≡ 7 ∷ [])
+      × (memory′ .totals ≡ 140000 ∷ 60000 ∷ 40000 ∷ 7 ∷ [])
+      × (memory′ .nodes ≡ 1 ∷ 2 ∷ 7 ∷ [])
+  pub reportSettled : {v : Verdict} {memory′ : ReportMemory} → ReportCall fileA (reportMemory 66 4 7 4 3) v memory′
       → (v ≡ passed)
-      × (length scratch′ ≡ 66) × (drop 65 scratch′ ≡ 7 ∷ [])
-      × (totals′ ≡ 140000 ∷ 60000 ∷ 20000 ∷ 7 ∷ [])
-      × (rows′ ≡ 0 ∷ 0 ∷ 1 ∷ 0 ∷ 2 ∷ 3 ∷ 7 ∷ [])
-      × (greedys′ ≡ 140000 ∷ 60000 ∷ 40000 ∷ 7 ∷ [])
-      × (taken′ ≡ 1 ∷ 2 ∷ 7 ∷ [])
+      × (length (memory′ .scratch) ≡ 66) × (drop 65 (memory′ .scratch) ≡ 7 ∷ [])
+      × (memory′ .planTotals ≡ 140000 ∷ 60000 ∷ 20000 ∷ 7 ∷ [])
+      × (memory′ .planRows ≡ 0 ∷ 0 ∷ 1 ∷ 0 ∷ 2 ∷ 3 ∷ 7 ∷ [])
+      × (memory′ .greedyTotals ≡ 140000 ∷ 60000 ∷ 40000 ∷ 7 ∷ [])
+      × (memory′ .greedyNodes ≡ 1 ∷ 2 ∷ 7 ∷ [])
 
 -- ---- the report program
 

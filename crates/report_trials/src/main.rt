@@ -23,7 +23,14 @@ fn answer(
     greedy_totals: &mut [u64],
     greedy_nodes: &mut [u16],
 ) {
-    trial_text::print_ruling(report::report(file, scratch, totals, rows, greedy_totals, greedy_nodes));
+    trial_text::print_ruling(report::report(
+        file,
+        scratch,
+        totals,
+        rows,
+        greedy_totals,
+        greedy_nodes,
+    ));
     trial_text::print_plan(totals, rows);
     print_greedy(greedy_totals, greedy_nodes);
     trial_text::print_kept(scratch, beyond, 5432123);
