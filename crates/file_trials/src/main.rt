@@ -41,19 +41,19 @@ fn answer_record(file: &[u8], v: u64) {
 // A file has at most 10,300 bytes here: the longest that is accepted has 10,249.
 fn check_case(line: &[u8]) {
     let mut space = [0u8; 10300];
-    let n = trial_text::put_file(trial_text::word(line, 2), &mut space);
+    let n = trial_text::file_of(line, 2, &mut space);
     answer_check(&space[0..n]);
 }
 
 fn record_case(line: &[u8]) {
     let mut space = [0u8; 10300];
-    let n = trial_text::put_file(trial_text::word(line, 3), &mut space);
+    let n = trial_text::file_of(line, 3, &mut space);
     let v = trial_text::number(trial_text::word(line, 2));
     answer_record(&space[0..n], v);
 }
 
 fn answer_line(line: &[u8]) {
-    io::write_all(STDOUT_FILENO, trial_text::word(line, 0));
+    trial_text::print_name(line);
     let question = trial_text::word(line, 1);
     if check::same(question, b"check") {
         check_case(line);
@@ -61,23 +61,19 @@ fn answer_line(line: &[u8]) {
     if check::same(question, b"record") {
         record_case(line);
     }
-    io::write_all(STDOUT_FILENO, b"\n");
+    trial_text::end_line();
 }
 
 fn answer_lines(text: &[u8]) {
     let mut at = 0;
     while at < text.len() {
-        let stop = trial_text::index_of(text, at, b'\n');
-        answer_line(&text[at..stop]);
-        if stop == text.len() {
-            return;
-        }
-        at = stop + 1;
+        answer_line(trial_text::up_to(text, at, b'\n'));
+        at = trial_text::past(text, at, b'\n');
     }
 }
 
 fn main() {
-    let mut text = [0u8; 131072];
+    let mut text = trial_text::text_room();
     let n = io::read_full(STDIN_FILENO, &mut text);
     answer_lines(&text[..n]);
 }

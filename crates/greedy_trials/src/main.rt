@@ -6,27 +6,30 @@
 use libc::STDIN_FILENO;
 use libc::STDOUT_FILENO;
 
-fn answer(file: &[u8], beyond: usize, scratch: &mut [u64], totals: &mut [u64], taken: &mut [u16]) {
-    trial_text::print_ruling(greedy::greedy(file, scratch, totals, taken));
+fn print_greedy(totals: &[u64], taken: &[u16]) {
     io::write_all(STDOUT_FILENO, b" totals");
     trial_text::print_totals(totals);
     io::write_all(STDOUT_FILENO, b" taken");
     trial_text::print_numbers(taken);
-    if trial_text::all_from(scratch, beyond, 9) {
-        io::write_all(STDOUT_FILENO, b" kept");
-    }
 }
 
-// Lends as much of each as the line says.
-fn answer_with(line: &[u8], scratch: &mut [u64], totals: &mut [u64], taken: &mut [u16]) {
-    let mut file = [0u8; 10300];
-    let n = trial_text::put_file(trial_text::word(line, 5), &mut file);
-    let a = trial_text::number_within(trial_text::word(line, 1), scratch.len());
-    let beyond = trial_text::number_within(trial_text::word(line, 2), scratch.len());
-    let b = trial_text::number_within(trial_text::word(line, 3), totals.len());
-    let c = trial_text::number_within(trial_text::word(line, 4), taken.len());
+fn answer(file: &[u8], beyond: usize, scratch: &mut [u64], totals: &mut [u64], taken: &mut [u16]) {
+    trial_text::print_ruling(greedy::greedy(file, scratch, totals, taken));
+    print_greedy(totals, taken);
+    trial_text::print_kept(scratch, beyond, 9);
+}
+
+// Lends as much of each buffer as the line says.
+fn answer_file(line: &[u8], file: &[u8]) {
+    let mut scratch = trial_text::scratch_room(9);
+    let mut totals = [9u64; 64];
+    let mut taken = [9u16; 64];
+    let a = trial_text::entries(line, 1, 40960);
+    let beyond = trial_text::entries(line, 2, 40960);
+    let b = trial_text::entries(line, 3, 64);
+    let c = trial_text::entries(line, 4, 64);
     answer(
-        &file[0..n],
+        file,
         beyond,
         &mut scratch[0..a],
         &mut totals[0..b],
@@ -35,28 +38,23 @@ fn answer_with(line: &[u8], scratch: &mut [u64], totals: &mut [u64], taken: &mut
 }
 
 fn answer_line(line: &[u8]) {
-    io::write_all(STDOUT_FILENO, trial_text::word(line, 0));
-    let mut scratch = [9u64; 40960];
-    let mut totals = [9u64; 64];
-    let mut taken = [9u16; 64];
-    answer_with(line, &mut scratch, &mut totals, &mut taken);
-    io::write_all(STDOUT_FILENO, b"\n");
+    trial_text::print_name(line);
+    let mut file = [0u8; 10300];
+    let n = trial_text::file_of(line, 5, &mut file);
+    answer_file(line, &file[0..n]);
+    trial_text::end_line();
 }
 
 fn answer_lines(text: &[u8]) {
     let mut at = 0;
     while at < text.len() {
-        let stop = trial_text::index_of(text, at, b'\n');
-        answer_line(&text[at..stop]);
-        if stop == text.len() {
-            return;
-        }
-        at = stop + 1;
+        answer_line(trial_text::up_to(text, at, b'\n'));
+        at = trial_text::past(text, at, b'\n');
     }
 }
 
 fn main() {
-    let mut text = [0u8; 65536];
+    let mut text = trial_text::text_room();
     let n = io::read_full(STDIN_FILENO, &mut text);
     answer_lines(&text[..n]);
 }

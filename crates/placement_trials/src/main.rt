@@ -21,12 +21,16 @@ fn print_bill(bill: Billed) {
     }
 }
 
-fn answer_bill(file: &[u8], set: &[u16], servings: &mut [u16], loads: &mut [u64]) {
-    print_bill(placement::bill(file, set, servings, loads));
+fn print_buffers(servings: &[u16], loads: &[u64]) {
     io::write_all(STDOUT_FILENO, b" servings");
     trial_text::print_numbers(servings);
     io::write_all(STDOUT_FILENO, b" loads");
     trial_text::print_totals(loads);
+}
+
+fn answer_bill(file: &[u8], set: &[u16], servings: &mut [u16], loads: &mut [u64]) {
+    print_bill(placement::bill(file, set, servings, loads));
+    print_buffers(servings, loads);
 }
 
 fn print_ranking(ranking: Ranking) {
@@ -49,35 +53,39 @@ fn answer_rank<'a>(file: &[u8], first: &'a [u16], second: &'a [u16]) {
     trial_text::print_numbers(compare::winner(file, first, second));
 }
 
-fn bill_case(line: &[u8]) {
-    let mut file = [0u8; 10300];
-    let n = trial_text::put_file(trial_text::word(line, 5), &mut file);
-    let mut set = [0u16; 1100];
-    let m = trial_text::put_numbers(trial_text::word(line, 2), &mut set);
+// Lends as much of each buffer as the line says.
+fn bill_set(line: &[u8], file: &[u8], set: &[u16]) {
     let mut servings = [4321u16; 1100];
     let mut loads = [987654321u64; 1100];
-    let a = trial_text::number_within(trial_text::word(line, 3), 1100);
-    let b = trial_text::number_within(trial_text::word(line, 4), 1100);
-    answer_bill(
-        &file[0..n],
-        &set[0..m],
-        &mut servings[0..a],
-        &mut loads[0..b],
-    );
+    let a = trial_text::entries(line, 3, 1100);
+    let b = trial_text::entries(line, 4, 1100);
+    answer_bill(file, set, &mut servings[0..a], &mut loads[0..b]);
+}
+
+fn bill_case(line: &[u8]) {
+    let mut file = [0u8; 10300];
+    let n = trial_text::file_of(line, 5, &mut file);
+    let mut set = [0u16; 1100];
+    let m = trial_text::numbers_of(line, 2, &mut set);
+    bill_set(line, &file[0..n], &set[0..m]);
+}
+
+fn rank_sets(line: &[u8], file: &[u8]) {
+    let mut first = [0u16; 1100];
+    let a = trial_text::numbers_of(line, 2, &mut first);
+    let mut second = [0u16; 1100];
+    let b = trial_text::numbers_of(line, 3, &mut second);
+    answer_rank(file, &first[0..a], &second[0..b]);
 }
 
 fn rank_case(line: &[u8]) {
     let mut file = [0u8; 10300];
-    let n = trial_text::put_file(trial_text::word(line, 4), &mut file);
-    let mut first = [0u16; 1100];
-    let a = trial_text::put_numbers(trial_text::word(line, 2), &mut first);
-    let mut second = [0u16; 1100];
-    let b = trial_text::put_numbers(trial_text::word(line, 3), &mut second);
-    answer_rank(&file[0..n], &first[0..a], &second[0..b]);
+    let n = trial_text::file_of(line, 4, &mut file);
+    rank_sets(line, &file[0..n]);
 }
 
 fn answer_line(line: &[u8]) {
-    io::write_all(STDOUT_FILENO, trial_text::word(line, 0));
+    trial_text::print_name(line);
     let question = trial_text::word(line, 1);
     if check::same(question, b"bill") {
         bill_case(line);
@@ -85,23 +93,19 @@ fn answer_line(line: &[u8]) {
     if check::same(question, b"rank") {
         rank_case(line);
     }
-    io::write_all(STDOUT_FILENO, b"\n");
+    trial_text::end_line();
 }
 
 fn answer_lines(text: &[u8]) {
     let mut at = 0;
     while at < text.len() {
-        let stop = trial_text::index_of(text, at, b'\n');
-        answer_line(&text[at..stop]);
-        if stop == text.len() {
-            return;
-        }
-        at = stop + 1;
+        answer_line(trial_text::up_to(text, at, b'\n'));
+        at = trial_text::past(text, at, b'\n');
     }
 }
 
 fn main() {
-    let mut text = [0u8; 131072];
+    let mut text = trial_text::text_room();
     let n = io::read_full(STDIN_FILENO, &mut text);
     answer_lines(&text[..n]);
 }

@@ -7,6 +7,13 @@
 use libc::STDIN_FILENO;
 use libc::STDOUT_FILENO;
 
+fn print_greedy(totals: &[u64], taken: &[u16]) {
+    io::write_all(STDOUT_FILENO, b" greedys");
+    trial_text::print_totals(totals);
+    io::write_all(STDOUT_FILENO, b" taken");
+    trial_text::print_numbers(taken);
+}
+
 fn answer(
     file: &[u8],
     beyond: usize,
@@ -17,60 +24,70 @@ fn answer(
     taken: &mut [u16],
 ) {
     trial_text::print_ruling(report::report(file, scratch, totals, rows, greedys, taken));
-    io::write_all(STDOUT_FILENO, b" totals");
-    trial_text::print_totals(totals);
-    io::write_all(STDOUT_FILENO, b" rows");
-    trial_text::print_numbers(rows);
-    io::write_all(STDOUT_FILENO, b" greedys");
-    trial_text::print_totals(greedys);
-    io::write_all(STDOUT_FILENO, b" taken");
-    trial_text::print_numbers(taken);
-    if trial_text::all_from(scratch, beyond, 5432123) {
-        io::write_all(STDOUT_FILENO, b" kept");
-    }
+    trial_text::print_plan(totals, rows);
+    print_greedy(greedys, taken);
+    trial_text::print_kept(scratch, beyond, 5432123);
 }
 
-fn answer_line(line: &[u8]) {
-    io::write_all(STDOUT_FILENO, trial_text::word(line, 0));
-    let mut file = [0u8; 10300];
-    let n = trial_text::put_file(trial_text::word(line, 7), &mut file);
-    let mut scratch = [5432123u64; 40960];
-    let mut totals = [987654321u64; 40];
-    let mut rows = [4321u16; 1100];
+// Lends as much of the greedy rule's buffers as the line says.
+fn answer_plan(
+    line: &[u8],
+    file: &[u8],
+    scratch: &mut [u64],
+    totals: &mut [u64],
+    rows: &mut [u16],
+) {
     let mut greedys = [123456789u64; 40];
     let mut taken = [1234u16; 40];
-    let a = trial_text::number_within(trial_text::word(line, 1), 40960);
-    let beyond = trial_text::number_within(trial_text::word(line, 2), 40960);
-    let b = trial_text::number_within(trial_text::word(line, 3), 40);
-    let c = trial_text::number_within(trial_text::word(line, 4), 1100);
-    let d = trial_text::number_within(trial_text::word(line, 5), 40);
-    let e = trial_text::number_within(trial_text::word(line, 6), 40);
+    let beyond = trial_text::entries(line, 2, 40960);
+    let d = trial_text::entries(line, 5, 40);
+    let e = trial_text::entries(line, 6, 40);
     answer(
-        &file[0..n],
+        file,
         beyond,
-        &mut scratch[0..a],
-        &mut totals[0..b],
-        &mut rows[0..c],
+        scratch,
+        totals,
+        rows,
         &mut greedys[0..d],
         &mut taken[0..e],
     );
-    io::write_all(STDOUT_FILENO, b"\n");
+}
+
+// Lends as much of the scratch and of the plan's buffers as the line says.
+fn answer_file(line: &[u8], file: &[u8]) {
+    let mut scratch = trial_text::scratch_room(5432123);
+    let mut totals = [987654321u64; 40];
+    let mut rows = [4321u16; 1100];
+    let a = trial_text::entries(line, 1, 40960);
+    let b = trial_text::entries(line, 3, 40);
+    let c = trial_text::entries(line, 4, 1100);
+    answer_plan(
+        line,
+        file,
+        &mut scratch[0..a],
+        &mut totals[0..b],
+        &mut rows[0..c],
+    );
+}
+
+fn answer_line(line: &[u8]) {
+    trial_text::print_name(line);
+    let mut file = [0u8; 10300];
+    let n = trial_text::file_of(line, 7, &mut file);
+    answer_file(line, &file[0..n]);
+    trial_text::end_line();
 }
 
 fn answer_lines(text: &[u8]) {
     let mut at = 0;
     while at < text.len() {
-        let stop = trial_text::index_of(text, at, b'\n');
-        answer_line(&text[at..stop]);
-        if stop == text.len() {
-            return;
-        }
-        at = stop + 1;
+        answer_line(trial_text::up_to(text, at, b'\n'));
+        at = trial_text::past(text, at, b'\n');
     }
 }
 
 fn main() {
-    let mut text = [0u8; 131072];
+    let mut text = trial_text::text_room();
     let n = io::read_full(STDIN_FILENO, &mut text);
     answer_lines(&text[..n]);
 }

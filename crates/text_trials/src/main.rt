@@ -3,32 +3,32 @@
 use libc::STDIN_FILENO;
 use libc::STDOUT_FILENO;
 
-// A file has at most 10,300 bytes here: the longest that any rule accepts has 10,249.
-fn answer_line(line: &[u8]) {
-    io::write_all(STDOUT_FILENO, trial_text::word(line, 0));
-    io::write_all(STDOUT_FILENO, b"\n");
-    let mut space = [0u8; 10300];
-    let n = trial_text::put_file(trial_text::word(line, 1), &mut space);
-    let text = report_text::program_text(&space[0..n]);
+fn print_text(file: &[u8]) {
+    let text = report_text::program_text(file);
     let bytes = text.bytes;
     let end = text.length;
     io::write_all(STDOUT_FILENO, &bytes[0..end]);
 }
 
+// A file has at most 10,300 bytes here: the longest that any rule accepts has 10,249.
+fn answer_line(line: &[u8]) {
+    trial_text::print_name(line);
+    trial_text::end_line();
+    let mut space = [0u8; 10300];
+    let n = trial_text::file_of(line, 1, &mut space);
+    print_text(&space[0..n]);
+}
+
 fn answer_lines(text: &[u8]) {
     let mut at = 0;
     while at < text.len() {
-        let stop = trial_text::index_of(text, at, b'\n');
-        answer_line(&text[at..stop]);
-        if stop == text.len() {
-            return;
-        }
-        at = stop + 1;
+        answer_line(trial_text::up_to(text, at, b'\n'));
+        at = trial_text::past(text, at, b'\n');
     }
 }
 
 fn main() {
-    let mut text = [0u8; 131072];
+    let mut text = trial_text::text_room();
     let n = io::read_full(STDIN_FILENO, &mut text);
     answer_lines(&text[..n]);
 }

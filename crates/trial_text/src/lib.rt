@@ -2,7 +2,8 @@
 //
 // A word is a name, a number, a list of numbers apart by commas, or a file: pieces of hexadecimal digits apart by `+`,
 // where `*N` after a piece stands for N of it.
-ghost use Prim.Native.Nat.{_≤_, _<_};
+ghost use mathlib.Core.Path.{_≡_};
+ghost use Prim.Native.Nat.{_+_, _-_, _≤_, _<_};
 ghost use lib.ListN.{length};
 use libc::STDOUT_FILENO;
 use tree_file::Ruling;
@@ -22,6 +23,26 @@ pub fn index_of(text: &[u8], at: usize, byte: u8) -> usize
     i
 }
 
+// The bytes from `at` up to the first such byte, else to the end.
+pub fn up_to(text: &[u8], at: usize, byte: u8) -> &[u8]
+    requires { ⌜ at ≤ length (now text) ⌝ }
+{
+    let stop = index_of(text, at, byte);
+    &text[at..stop]
+}
+
+// The index after the first such byte from `at` on, else the length.
+pub fn past(text: &[u8], at: usize, byte: u8) -> usize
+    requires { ⌜ at ≤ length (now text) ⌝ }
+    ensures { λ r. ⌜ (r ≤ length (now (text .entry))) × (length (now (text .entry)) - r ≤ length (now (text .entry)) - (at + 1)) ⌝ }
+{
+    let stop = index_of(text, at, byte);
+    if stop == text.len() {
+        return stop;
+    }
+    stop + 1
+}
+
 // Where word `k` of a line begins, at most the length.
 fn word_start(line: &[u8], k: usize) -> usize
     ensures { λ r. ⌜ r ≤ length (now (line .entry)) ⌝ }
@@ -29,11 +50,7 @@ fn word_start(line: &[u8], k: usize) -> usize
     let mut at = 0;
     let mut left = k;
     while 0 < left {
-        let end = index_of(line, at, b' ');
-        if end == line.len() {
-            return end;
-        }
-        at = end + 1;
+        at = past(line, at, b' ');
         left -= 1;
     }
     at
@@ -41,9 +58,7 @@ fn word_start(line: &[u8], k: usize) -> usize
 
 // Word `k` of a line, empty if there is none.
 pub fn word(line: &[u8], k: usize) -> &[u8] {
-    let start = word_start(line, k);
-    let end = index_of(line, start, b' ');
-    &line[start..end]
+    up_to(line, word_start(line, k), b' ')
 }
 
 // The number that decimal digits say; what is from 10^19 on is cut.
@@ -74,6 +89,11 @@ fn digit(byte: u8) -> u8
     0
 }
 
+// The byte of two hexadecimal digits.
+fn byte_of(high: u8, low: u8) -> u8 {
+    digit(high) * 16 + digit(low)
+}
+
 // Writes a byte at `at`, if there is room, and answers where the next one goes.
 fn put_byte(out: &mut [u8], at: usize, byte: u8) -> usize
     ensures { λ r. ⌜ r ≤ length (now (out .exit)) ⌝ }
@@ -93,7 +113,7 @@ fn put_bytes(digits: &[u8], out: &mut [u8], at: usize) -> usize
     let mut i = 1;
     let mut end = at;
     while i < digits.len() {
-        end = put_byte(out, end, digit(digits[i - 1]) * 16 + digit(digits[i]));
+        end = put_byte(out, end, byte_of(digits[i - 1], digits[i]));
         i += 2;
     }
     end
@@ -113,18 +133,21 @@ fn put_copies(digits: &[u8], copies: u64, out: &mut [u8], at: usize) -> usize
     end
 }
 
+// How often a piece of a file stands.
+fn copies(piece: &[u8]) -> u64 {
+    let star = index_of(piece, 0, b'*');
+    if star == piece.len() {
+        return 1;
+    }
+    number(&piece[star + 1..])
+}
+
 // A piece of a file, as often as it says.
 fn put_piece(piece: &[u8], out: &mut [u8], at: usize) -> usize
     requires { ⌜ at ≤ length (now out) ⌝ }
     ensures { λ r. ⌜ r ≤ length (now (out .exit)) ⌝ }
 {
-    let star = index_of(piece, 0, b'*');
-    if star == piece.len() {
-        return put_copies(piece, 1, out, at);
-    }
-    let after = star + 1;
-    let copies = number(&piece[after..]);
-    put_copies(&piece[0..star], copies, out, at)
+    put_copies(up_to(piece, 0, b'*'), copies(piece), out, at)
 }
 
 // Writes the bytes of a file, as many as fit, at the start of `out`, and answers how many there are.
@@ -134,12 +157,8 @@ pub fn put_file(word: &[u8], out: &mut [u8]) -> usize
     let mut at = 0;
     let mut end = 0;
     while at < word.len() {
-        let stop = index_of(word, at, b'+');
-        end = put_piece(&word[at..stop], out, end);
-        if stop == word.len() {
-            return end;
-        }
-        at = stop + 1;
+        end = put_piece(up_to(word, at, b'+'), out, end);
+        at = past(word, at, b'+');
     }
     end
 }
@@ -162,12 +181,8 @@ pub fn put_numbers(word: &[u8], out: &mut [u16]) -> usize
     let mut at = 0;
     let mut end = 0;
     while at < word.len() {
-        let stop = index_of(word, at, b',');
-        end = put_number(out, end, number(&word[at..stop]));
-        if stop == word.len() {
-            return end;
-        }
-        at = stop + 1;
+        end = put_number(out, end, number(up_to(word, at, b',')));
+        at = past(word, at, b',');
     }
     end
 }
@@ -183,6 +198,41 @@ pub fn number_within(word: &[u8], most: usize) -> usize
     most
 }
 
+// The same of word `k` of a line.
+pub fn entries(line: &[u8], k: usize, most: usize) -> usize
+    ensures { λ r. ⌜ r ≤ most ⌝ }
+{
+    number_within(word(line, k), most)
+}
+
+// Writes the bytes of the file that word `k` of a line says, as `put_file` does.
+pub fn file_of(line: &[u8], k: usize, out: &mut [u8]) -> usize
+    ensures { λ r. ⌜ r ≤ length (now (out .exit)) ⌝ }
+{
+    put_file(word(line, k), out)
+}
+
+// Writes the list of numbers that word `k` of a line says, as `put_numbers` does.
+pub fn numbers_of(line: &[u8], k: usize, out: &mut [u16]) -> usize
+    ensures { λ r. ⌜ r ≤ length (now (out .exit)) ⌝ }
+{
+    put_numbers(word(line, k), out)
+}
+
+// Room for the text of all cases.
+pub fn text_room() -> [u8; 131072]
+    ensures { λ r. ⌜ 131072 ≡ length r ⌝ }
+{
+    [0; 131072]
+}
+
+// A scratch of which each word is this value.
+pub fn scratch_room(value: u64) -> [u64; 40960]
+    ensures { λ r. ⌜ 40960 ≡ length r ⌝ }
+{
+    [value; 40960]
+}
+
 // Are all words from `at` on this value?
 pub fn all_from(words: &[u64], at: usize, value: u64) -> bool {
     let mut i = at;
@@ -196,6 +246,15 @@ pub fn all_from(words: &[u64], at: usize, value: u64) -> bool {
 }
 
 // ---- answers, to standard output
+
+// Prints the name of the case, which its line begins with.
+pub fn print_name(line: &[u8]) {
+    io::write_all(STDOUT_FILENO, word(line, 0));
+}
+
+pub fn end_line() {
+    io::write_all(STDOUT_FILENO, b"\n");
+}
 
 // Prints ` accepted`, or ` refused` with the rule and the record.
 pub fn print_ruling(ruling: Ruling) {
@@ -215,9 +274,13 @@ pub fn print_refused(rule: u8, record: u16) {
     print_number(record as u64);
 }
 
+fn print_space() {
+    io::write_all(STDOUT_FILENO, b" ");
+}
+
 // Prints a space and a number.
 pub fn print_number(value: u64) {
-    io::write_all(STDOUT_FILENO, b" ");
+    print_space();
     io::print_decimal(STDOUT_FILENO, value);
 }
 
@@ -243,9 +306,24 @@ pub fn print_totals(values: &[u64]) {
     }
 }
 
+// Prints the buffers of a plan.
+pub fn print_plan(totals: &[u64], rows: &[u16]) {
+    io::write_all(STDOUT_FILENO, b" totals");
+    print_totals(totals);
+    io::write_all(STDOUT_FILENO, b" rows");
+    print_numbers(rows);
+}
+
+// Prints ` kept` if all words of the scratch from `beyond` on are this value.
+pub fn print_kept(scratch: &[u64], beyond: usize, value: u64) {
+    if all_from(scratch, beyond, value) {
+        io::write_all(STDOUT_FILENO, b" kept");
+    }
+}
+
 // Prints a space and the hexadecimal digits of the bytes.
 pub fn print_bytes(bytes: &[u8]) {
-    io::write_all(STDOUT_FILENO, b" ");
+    print_space();
     let mut i = 0;
     while i < bytes.len() {
         print_byte(bytes[i]);
