@@ -143,25 +143,21 @@ fn tree_of(line: &[u8]) -> SmallTree {
 }
 
 fn answer_line(line: &[u8]) {
-    io::write_all(STDOUT_FILENO, trial_text::word(line, 0));
+    trial_text::print_name(line);
     answer(tree_of(line), trial_text::number(trial_text::word(line, 3)));
-    io::write_all(STDOUT_FILENO, b"\n");
+    trial_text::end_line();
 }
 
 fn answer_lines(text: &[u8]) {
     let mut at = 0;
     while at < text.len() {
-        let stop = trial_text::index_of(text, at, b'\n');
-        answer_line(&text[at..stop]);
-        if stop == text.len() {
-            return;
-        }
-        at = stop + 1;
+        answer_line(trial_text::up_to(text, at, b'\n'));
+        at = trial_text::past(text, at, b'\n');
     }
 }
 
 fn main() {
-    let mut text = [0u8; 65536];
+    let mut text = trial_text::text_room();
     let n = io::read_full(STDIN_FILENO, &mut text);
     answer_lines(&text[..n]);
 }
