@@ -7,11 +7,11 @@
 use libc::STDIN_FILENO;
 use libc::STDOUT_FILENO;
 
-fn print_greedy(totals: &[u64], greedy_nodes: &[u16]) {
+fn print_greedy(totals: &[u64], nodes: &[u16]) {
     io::write_all(STDOUT_FILENO, b" greedy_totals");
     trial_text::print_totals(totals);
     io::write_all(STDOUT_FILENO, b" greedy_nodes");
-    trial_text::print_numbers(greedy_nodes);
+    trial_text::print_numbers(nodes);
 }
 
 fn answer(
