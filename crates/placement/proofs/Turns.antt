@@ -54,7 +54,7 @@ module _ {file servings loads : List ℕ} {n : ℕ} (given : Walkable file n ser
       (node-walked t d k (given .ofFile .sound .preorder) z (omega (arith, given .ofFile .nodes)) w (eqb (getD servings v 0) v) _ _
       (self-serving-member n servings v z h) (r .relieves) (r .loadAbove))
 
-  -- ---- the row of v's children from node i on, when it has come to node e
+  -- ---- the row of v's children from node i on, walked up to node e
 
   pub row-opens : {v i : ℕ} → Begins t v i → RowUpTo t d k loads v i i 0 0 loads
   row-opens b = row-starts t d k (given .ofFile .sound .preorder) loads b

@@ -107,7 +107,7 @@ module _ (t : Tree) (d : Demand) (k : List ℕ) where
   }
 
   module _ (pre : Preorder t) where
-    -- ---- the row of v's children from node i on, when it has come to node e
+    -- ---- the row of v's children from node i on, walked up to node e
 
     pub row-starts : (loads : List ℕ) {v i : ℕ} → Begins t v i → RowUpTo t d k loads v i i 0 0 loads
     unfolding sum those
@@ -135,7 +135,7 @@ module _ (t : Tree) (d : Demand) (k : List ℕ) where
       pub row-stops : t .parent e < v → RowWalked t d k loads v i e load relief loads′
       row-stops h = row-done (λ _. not-below t pre v e (w .goesOn) h)
 
-      -- node e is a child of v, and is walked: the row has come to the node after it
+      -- node e is a child of v, and is walked with all below it: the row is walked up to the node after them
       pub row-goes-on : {loads″ : List ℕ} {e₂ load₂ relief₂ : ℕ} → v ≤ t .parent e → NodeWalked t d k loads′ e e₂ load₂ relief₂ loads″
           → RowUpTo t d k loads v i e₂ (load + load₂) (relief + relief₂) loads″
       unfolding sum

@@ -51,7 +51,7 @@ module _ (t : Tree) (d : Demand) (k loads : List ℕ) where
     pub loadsAbove : load ≡ sum (linkLoad t d k) (those (childOf t v) (range i (e - i)))
     pub walked : RangeWalked i e relief loads′
 
-  -- the same row on the way, when it has come to node e
+  -- the same row part way: the nodes from i to e − 1 are walked, and the row can go on with node e
   pub record RowUpTo (v i e load relief : ℕ) (loads′ : List ℕ) : Type 0 where
     pub from : i ≤ e
     pub within : (c : ℕ) → i ≤ c → c < e → atOrBelow t v c ≡ true
