@@ -1,6 +1,6 @@
 -- `make_report`: the plan, then the greedy rule in the same scratch.
 use borrow.Author.Needs.{needs}
-use Rattle.greedy.proofs.Answers.{granted-still}
+use Rattle.greedy.proofs.Answers.{room-still}
 use Rattle.report.proofs.Answers.{both-written}
 use Rattle.report.proofs.make_report.Statement.{statement}
 use Rattle.report.proofs.make_report.Tie as tie
