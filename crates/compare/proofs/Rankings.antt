@@ -46,7 +46,7 @@ module _ (file : List ℕ) (k l r : Slice u16) where
   holds-named (answered second) h = ap now h
   holds-named (refused q i) h = h .entries
 
-  -- what the call owes, by an answer of the code
+  -- what the call guarantees, by an answer of the code
   pub handed-back : {a b : Ranking} → a ≡ b → rankingOf a ≡ ranking file (now k) (now l) → WinnerHandedBack (rankingOf b) k l r
       → (now r ≡ winner file (now k) (now l)) × WinnerHandedBack (ranking file (now k) (now l)) k l r
   handed-back {b = b} e h w =

@@ -1,4 +1,4 @@
--- What the count of members at or below each node keeps, while each member in turn is climbed from up to the server.
+-- What the count of members at or below each node keeps, while the code climbs from each member up to the server.
 use mathlib.Core.Path.{_≡_}
 use mathlib.Core.List.{List}
 use Prim.Native.Nat.{ℕ, _+_, _-_, _≤_, _<_}

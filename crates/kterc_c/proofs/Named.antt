@@ -7,7 +7,7 @@ use Rattle.model.specs.Calls.{PlanMemory, planVerdict, PlanCall, GreedyMemory, 
 use Rattle.model.specs.Report.{ReportMemory, reportVerdict, ReportCall}
 use Rattle.model.specs.Hosts.{codeOf, HostBillMemory, hostBillVerdict, HostBillCall}
 
--- the code tells the verdict, and the call holds with it
+-- the code is that of the verdict, and the call keeps its record with that verdict
 abbrev Told : (Verdict → Type 0) → ℕ → Verdict → Type 0
 Told Call code v = (code ≡ codeOf v) × Call v
 

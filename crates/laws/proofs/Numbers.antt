@@ -18,7 +18,7 @@ row-before {i} {j} w h = rw suc-mul at (mul-le-mul-right w h)
 pub row-within : {i j n w : ℕ} → i < n → j < w → i * w + j < n * w
 row-within {w = w} h k = omega (arith, row-before w h)
 
--- an entry's place tells its row and its place in it
+-- from an entry's index follow its row and its index in that row
 pub row-same : (i j k l w : ℕ) → k < w → l < w → i * w + k ≡ j * w + l → (i ≡ j) × (k ≡ l)
 row-same i j k l w h m e =
     elim (decLt i j) [

@@ -40,7 +40,7 @@ accepted-header s e =
 
 -- ---- the records
 
--- every record has its yes
+-- rules 7 to 11 hold of every record
 each-record : (t : Tree) (d : Demand) (n i : ℕ) → recordsVerdict t d n ≡ passed → i < n → recordVerdict t d i ≡ passed
 unfolding recordsVerdict
 each-record t d zero i e h = absurd (omega arith)

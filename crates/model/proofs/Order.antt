@@ -60,7 +60,7 @@ having-is true false rest = refl
 having-is false true rest = refl
 having-is false false rest = refl
 
--- ---- the visit of the nodes in turn
+-- ---- the visit of nodes 1, 2, ..
 
 module _ (t : Tree) where
   visits-cons : (k l : List ℕ) (v : ℕ) (vs : List ℕ) → visits t k l (v ∷ vs)

@@ -1,5 +1,4 @@
--- Questions asked one after the other: all have their yes where the verdict is that they passed. What an answer says of the
--- verdict behind it.
+-- Rules asked one after the other: the verdict is `passed` just where all of them hold. What an answer says of its verdict.
 use mathlib.Core.Path.{_≡_, refl}
 use mathlib.Core.Bool.{Bool, true, false, false≢true}
 use Prim.Native.Nat.{ℕ}

@@ -38,7 +38,7 @@ ScratchAfter passed file old new =
     (length new ≡ length old) × (drop (scratchWords file) new ≡ drop (scratchWords file) old)
 ScratchAfter (broken q i) file old new = new ≡ old
 
--- ---- the check for a C host: 0, or the number of the first no among 1 to 11
+-- ---- the check for a C host: 0, or the number of the first broken rule among 1 to 11
 
 abbrev pub numberOf : Verdict → ℕ
 numberOf passed = 0
@@ -73,7 +73,7 @@ servingNodes file set = map (serving (treeOf file) set) (nodes (treeOf file))
 abbrev pub linkLoads : List ℕ → List ℕ → List ℕ
 linkLoads file set = map (linkLoad (treeOf file) (demandOf file) set) (nodes (treeOf file))
 
--- what the bill call owes for all arguments
+-- what the bill call guarantees for all arguments
 pub record BillCall (file set : List ℕ) (memory : BillMemory) (a : Answer ℕ) (memory′ : BillMemory) : Type 0 where
   pub answers : a ≡ answer (billVerdict file set memory) (total (treeOf file) (demandOf file) set)
   pub servingsAfter : memory′ .servings ≡ after (billVerdict file set memory) (servingNodes file set) (memory .servings)
@@ -127,7 +127,7 @@ planVerdict file memory =
     then askScratch file (memory .scratch)
     then askBuffers (planBuffersLong file (memory .totals) (memory .rows))
 
--- what the plan call owes for all arguments
+-- what the plan call guarantees for all arguments
 pub record PlanCall (file : List ℕ) (memory : PlanMemory) (v : Verdict) (memory′ : PlanMemory) : Type 0 where
   pub verdict : v ≡ planVerdict file memory
   pub scratchAfter : ScratchAfter v file (memory .scratch) (memory′ .scratch)
@@ -157,7 +157,7 @@ greedyVerdict file memory =
     then askScratch file (memory .scratch)
     then askBuffers (greedyBuffersLong file (memory .totals) (memory .nodes))
 
--- what the greedy call owes for all arguments
+-- what the greedy call guarantees for all arguments
 pub record GreedyCall (file : List ℕ) (memory : GreedyMemory) (v : Verdict) (memory′ : GreedyMemory) : Type 0 where
   pub verdict : v ≡ greedyVerdict file memory
   pub scratchAfter : ScratchAfter v file (memory .scratch) (memory′ .scratch)

@@ -12,7 +12,7 @@ use Rattle.model.specs.Calls.{after, billBuffersLong, servingNodes, link
 abbrev pub codeUnit : ℕ
 codeUnit = 256
 
--- record × 256 + number, and 0 where every question has its yes
+-- record × 256 + number, and 0 where no rule is broken
 abbrev pub codeOf : Verdict → ℕ
 codeOf passed = 0
 codeOf (broken q i) = i * codeUnit + q
@@ -35,7 +35,7 @@ hostBillVerdict file set memory =
     then askSet file set
     then askBuffers (longEnough 1 (memory .totals) && billBuffersLong file (memory .servings) (memory .loads))
 
--- what the bill call of a host owes for all arguments
+-- what the bill call of a host guarantees for all arguments
 pub record HostBillCall (file set : List ℕ) (memory : HostBillMemory) (v : Verdict) (memory′ : HostBillMemory) : Type 0 where
   pub verdict : v ≡ hostBillVerdict file set memory
   pub totalsAfter : memory′ .totals ≡ after v (total (treeOf file) (demandOf file) set ∷ []) (memory .totals)

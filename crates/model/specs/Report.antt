@@ -17,7 +17,7 @@ use Rattle.model.specs.Calls.{after, ScratchAfter, budgets, planTotals, 
 
 -- ---- demand 3
 
--- what a report owes at budget b, of the set and the two totals that it holds there
+-- what a report guarantees at budget b, of the set and the two totals that it holds there
 pub record HoldsOptimum (t : Tree) (d : Demand) (b : ℕ) (held : List ℕ) (planHeld greedyHeld : ℕ) : Type 0 where
   -- "a set of at most b nodes"
   pub isASet : isSet t held ≡ true
@@ -64,7 +64,7 @@ unfoldable pub reportVerdict : List ℕ → ReportMemory → Verdict
 reportVerdict file memory =
     fileVerdict file then askScratch file (memory .scratch) then askBuffers (reportBuffersLong file memory)
 
--- what the report call owes for all arguments
+-- what the report call guarantees for all arguments
 pub record ReportCall (file : List ℕ) (memory : ReportMemory) (v : Verdict) (memory′ : ReportMemory) : Type 0 where
   pub verdict : v ≡ reportVerdict file memory
   pub scratchAfter : ScratchAfter v file (memory .scratch) (memory′ .scratch)

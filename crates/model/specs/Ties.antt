@@ -25,7 +25,7 @@ module _ (t : Tree) where
   unfoldable pub members : List ℕ → ℕ → ℕ
   members k v = howMany (atOrBelow t v) k
 
-  -- does K come before L where these nodes are visited in turn? More members at or below come first, then the node itself.
+  -- does K come before L where these nodes are visited one after the other? More members at or below come first, then the node itself.
   unfoldable pub visits : List ℕ → List ℕ → List ℕ → Bool
   visits k l [] = false
   visits k l (v ∷ vs) = smallerFirst (members l v) (members k v) (havingFirst (has k v) (has l v) (visits k l vs))

@@ -56,7 +56,7 @@ module _ (file k : List ℕ) (memory : BillMemory) where
         pub buffers-walkable : Walkable file n (memory .servings) (memory .loads)
         buffers-walkable = record { ofFile = accepted-file file ok nodes; servingsLong = h; loadsLong = g }
 
-        -- every rule has its yes
+        -- no rule is broken
         pub bill-answered : {x : ℕ} {memory′ : BillMemory} → BillWritten file k (memory .servings) (memory .loads) x (memory′ .servings) (memory′ .loads)
             → BillCall file k memory (answered x) memory′
         unfolding billVerdict

@@ -1,4 +1,4 @@
--- Node and row by turns, as the code takes them: what each call may assume, and what its result owes.
+-- The node function and the row function, as they call each other: what each call may assume, and what its result guarantees.
 use mathlib.Core.Path.{_≡_, sym, _∙_}
 use mathlib.Core.Bool.{Bool, and-true}
 use mathlib.Core.List.{List}

@@ -1,4 +1,4 @@
--- The bill call's answer in the model's words, and what it writes where every rule has its yes.
+-- The bill call's answer in the model's words, and what it writes where no rule is broken.
 use mathlib.Core.Path.{_≡_}
 use mathlib.Core.List.{List}
 use Prim.Native.Nat.{ℕ}

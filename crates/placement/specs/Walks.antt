@@ -1,4 +1,4 @@
--- What the walk of a node and the walk of a row of children owe: where they end, their loads, and what they have written.
+-- What the walk of a node and the walk of a row of children guarantee: where they end, their loads, and what they have written.
 use mathlib.Core.Path.{_≡_}
 use mathlib.Core.Bool.{Bool, true, false, cond}
 use mathlib.Core.List.{List, map}

@@ -253,7 +253,7 @@ pub fn write_file(tree: SmallTree, out: &mut [u8]) -> usize
 
 // ---- a sequence of trees
 
-// The numbers of nodes, by turns.
+// The numbers of nodes, one after the other.
 const COUNTS: [usize; 12] = [1, 2, 3, 4, 5, 5, 5, 6, 6, 6, 6, 6];
 
 // The next number of a congruential sequence.

@@ -60,7 +60,7 @@ module _ (file : List ℕ) where
   climbs-here i n h = record { here = n .here; preorder = one-more (treeOf file) i (n .preorder) h }
 
   module _ (n : ℕ) where
-    -- the first i of n records have their yes
+    -- the rules hold of the first i of n records
     pub record Passing (i : ℕ) : Type 0 where
       pub some : i ≤ n
       pub there : RecordsThere file n

@@ -27,7 +27,7 @@ module _ (file : List ℕ) where
   pub sizes-refused : (q i : ℕ) → broken q i ≡ fileVerdict file → refused q i ≡ answer (fileVerdict file) (sizesOf file)
   sizes-refused q i e = rw (← e)
 
--- what the record call owes where r is handed back
+-- what the record call guarantees where r is handed back
 abbrev RecordOwed : Slice u8 → ℕ → Slice u8 → Type 0
 RecordOwed file v r = (now r ≡ recordBytes (now file) v) × RecordHandedBack file v r
 

@@ -13,7 +13,7 @@ ghost use Rattle.fields.specs.Table.{InFile};
 ghost use Rattle.tree_file.specs.Checks.{verdictOf, answerOf, sizesOf, Climbable, DepthsTo, NextRecord, RecordsThere};
 ghost use Rattle.tree_file.specs.Places.{RecordHandedBack};
 
-// The first no among the rules asked, with its number and record, if there is one.
+// No rule broken, or the first broken one: its number and its record.
 pub enum Ruling {
     Passed,
     Broken(u8, u16),
