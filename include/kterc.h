@@ -16,7 +16,7 @@
  * Stack. A call needs KTERC_.._STACK bytes of its thread's stack, whatever the file. They are measured, on x86-64 and with a
  * margin of a third or more, and not proved.
  *
- * Result. 0: accepted, the answers are written. Else the call is refused: KTERC_RULE tells the number of the first broken rule,
+ * Result. 0: accepted, the answers are written. Else the call is refused: KTERC_RULE gives the number of the first broken rule,
  * KTERC_RECORD the record it broke on (0 where no record is at fault), and nothing is changed, neither answers nor scratch.
  */
 #ifndef KTERC_H

@@ -133,8 +133,8 @@ pub fn rank(file: &[u8], first: &[u16], second: &[u16]) -> Ranking
     }
 }
 
-// The set that ranks first, empty on refusal. An empty set that wins and a refusal look alike here: `rank` tells them
-// apart.
+// The set that ranks first, empty on refusal. An empty set that wins and a refusal look alike here; `rank` distinguishes
+// them.
 pub fn winner<'a>(file: &[u8], first: &'a [u16], second: &'a [u16]) -> &'a [u16]
     ensures { λ r. ⌜ now r ≡ winner (now (file .entry)) (now (first .entry)) (now (second .entry)) ⌝ }
     ensures { λ r. ⌜ WinnerHandedBack (ranking (now (file .entry)) (now (first .entry)) (now (second .entry))) (first .entry) (second .entry) r ⌝ }

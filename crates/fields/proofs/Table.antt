@@ -9,7 +9,7 @@ use Rattle.fields.specs.declared.Field as code
 use Rattle.fields.specs.Table.{rowOf, fieldAt}
 
 -- what holds of each of the four rows holds of row f
-pub by-row : (P : ℕ → Type 0) → P 0 → P 1 → P 2 → P 3 → (f : ℕ) → f < 4 → P f
+by-row : (P : ℕ → Type 0) → P 0 → P 1 → P 2 → P 3 → (f : ℕ) → f < 4 → P f
 by-row P a b c d zero h = a
 by-row P a b c d (suc zero) h = b
 by-row P a b c d (suc (suc zero)) h = c

@@ -17,7 +17,7 @@ use Rattle.model.specs.Bill.{total, linkTotal}
 use Rattle.model.specs.Ties.{ranksBefore}
 use Rattle.model.specs.Plan.{plan, planTotal}
 use Rattle.model.specs.Greedy.{greedyTotal}
-use Rattle.model.specs.Calls.{Winner, named, first, second, rankVerdict, ranking}
+use Rattle.model.specs.Calls.{Winner, named, first, second, rankVerdict, ranking, planBuffersLong, greedyBuffersLong}
 use Rattle.model.specs.Report.{HoldsOptimum}
 use Rattle.model.specs.Hosts.{codeUnit, codeOf}
 use Rattle.model.specs.Laws.{RanksFirst}
@@ -130,6 +130,8 @@ calls-lawful file =
       billFits = λ set servings loads. both-fit servings loads (length-serving-nodes file set) (length-link-loads file set);
       planFits = λ totals rows. both-fit totals rows (length-plan-totals file) (length-plan-rows file);
       greedyFits = λ totals nodes. both-fit totals nodes (length-greedy-totals file) (length-greedy-row file);
+      demandMet = λ memory memory′ c. c .demandThree refl;
+      reportFits = λ memory. (both (planBuffersLong file (memory .planTotals) (memory .planRows)) (greedyBuffersLong file (memory .greedyTotals) (memory .greedyNodes)), λ h. rw (h .0, h .1));
       scratchStays = λ old new h. (h .0, same-from (scratchWords file) old new (h .1));
       scratchKept = λ q i old new h. h;
       demandSettles = λ memory h b l. only-optimum (treeOf file) (demandOf file) b _ _ _ (h b l);

@@ -81,6 +81,7 @@ worked = record {
     deepest = refl;
     tooDeep = refl;
     depthBeforeLength = refl;
+    parentBeforeDepth = refl;
     largestPass = refl;
     lengthOver = refl;
     flowOver = refl;
@@ -133,6 +134,7 @@ worked = record {
     rowsOfPlan = refl;
     totalsOfGreedy = refl;
     rowOfGreedy = refl;
+    orderTaken = refl;
     setOfRowOne = refl;
     setOfRowTwo = refl;
     scratchOfChain = refl;
@@ -149,17 +151,20 @@ worked = record {
     greedyFileFirst = refl;
     reportPasses = refl;
     reportScratchShort = refl;
+    reportTotalsShort = refl;
+    reportGreedyTotalsShort = refl;
     reportPlanShort = refl;
     reportGreedyShort = refl;
     reportFileFirst = refl;
-    hostHearsNone = refl;
-    hostHears = refl;
+    checkOfAccepted = refl;
+    checkOfRefused = refl;
     codeOfNone = refl;
     codeOfNine = refl;
     wordsOfA = refl;
     wordsOfRefused = refl;
     hostBillPasses = refl;
     hostTotalShort = refl;
+    hostServingsShort = refl;
     hostLoadsShort = refl;
     hostSetFirst = refl;
     hostFileFirst = refl;
@@ -168,10 +173,13 @@ worked = record {
     billSettled = λ c. (c .answers, c .servingsAfter, c .loadsAfter);
     billRefused = λ c. (c .answers, c .servingsAfter, c .loadsAfter);
     hostBillSettled = host-bill-settled;
+    hostBillRefused = host-bill-settled;
     planSettled = λ c. let s = plan-settled c in (s .0, s .1 .0, s .1 .1, s .2, s .3);
     planRefused = plan-settled;
     greedySettled = λ c. let s = greedy-settled c in (s .0, s .1 .0, s .1 .1, s .2, s .3);
-    reportSettled = λ c. let s = report-settled c in (s .0, s .1 .0, s .1 .1, s .2, s .3, s .4, s .5);
+    greedyRefused = greedy-settled;
+    reportRefused = report-settled;
+    reportSettled = λ c. let s = report-settled c in (s .0, s .1 .0, s .1 .1, s .2, s .3, s .4, s .5, c .demandThree (s .0));
   };
   program = record {
     reportOfA = refl;

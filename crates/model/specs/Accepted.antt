@@ -9,7 +9,7 @@ use Rattle.model.specs.Tree.{depth}
 use Rattle.model.specs.Rules.{passed, parentHolds, lengthHolds, recordsVerdict}
 use Rattle.model.specs.Preorder.{Preorder}
 
--- what rules 4 to 6 say of the header
+-- what rules 4 to 6 say of the header, and that no record breaks a rule
 pub record HeaderHolds (s : List ℕ) : Type 0 where
   pub some : 1 ≤ countOf s
   pub few : countOf s ≤ mostNodes

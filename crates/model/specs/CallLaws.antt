@@ -1,5 +1,6 @@
 -- Laws of the calls, proved for every file (`calls-lawful` in proofs/CallLaws): the ranking and its winner, a host's codes, the
--- buffers that question 14 asks for, the scratch after a call, that demand 3 leaves no choice, and printed numbers.
+-- buffers that question 14 asks for, the scratch after a call, that demand 3 is met and leaves no choice, and printed numbers.
+-- Numbers are written out here, so that a wrong constant breaks a law.
 use mathlib.Core.Path.{_≡_}
 use mathlib.Core.Bool.{true, false}
 use mathlib.Core.List.{List, [], _∷_}
@@ -13,7 +14,7 @@ use Rattle.model.specs.Ties.{ranksBefore}
 use Rattle.model.specs.Plan.{plan, planTotal}
 use Rattle.model.specs.Greedy.{greedyTotal}
 use Rattle.model.specs.Calls.{answered, refused, first, second, ScratchAfter, billBuffersLong, servingNodes, linkLoads, rankVerdict, ranking, winner, planTotals, planRows, planBuffersLong, PlanMemory, planVerdict, greedyTotals, greedyRow, greedyBuffersLong, GreedyMemory, greedyVerdict}
-use Rattle.model.specs.Report.{setOfRow, ReportMemory, DemandThree, reportVerdict, digit, decimal}
+use Rattle.model.specs.Report.{setOfRow, ReportMemory, DemandThree, reportBuffersLong, reportVerdict, ReportCall, digit, decimal}
 use Rattle.model.specs.Hosts.{codeOf, HostBillMemory, hostBillVerdict}
 
 -- the ranking of K and L in a file, and its winner
@@ -56,10 +57,15 @@ pub record CallsLawful (file : List ℕ) : Type 0 where
       ↔ ((length (planTotals file) ≤ length totals) × (length (planRows file) ≤ length rows))
   pub greedyFits : (totals nodes : List ℕ) → greedyBuffersLong file totals nodes ≡ true
       ↔ ((length (greedyTotals file) ≤ length totals) × (length (greedyRow file) ≤ length nodes))
+  pub reportFits : (memory : ReportMemory) → reportBuffersLong file memory ≡ true
+      ↔ ((planBuffersLong file (memory .planTotals) (memory .planRows) ≡ true)
+      × (greedyBuffersLong file (memory .greedyTotals) (memory .greedyNodes) ≡ true))
   -- "Only scratch after an accepted call is free": its first words; the others and the length stay, and a refusal keeps all
   pub scratchStays : (old new : List ℕ) → ScratchAfter passed file old new
       → (length new ≡ length old) × ((i : ℕ) → scratchWords file ≤ i → getD new i 0 ≡ getD old i 0)
   pub scratchKept : (q i : ℕ) (old new : List ℕ) → ScratchAfter (broken q i) file old new → new ≡ old
+  -- the report call meets demand 3
+  pub demandMet : (memory memory′ : ReportMemory) → ReportCall file memory passed memory′ → DemandThree file memory′
   -- Demand 3 leaves no choice: at each budget one set and two totals meet it. The first is the sum over links, and no more
   -- than the second.
   pub demandSettles : (memory : ReportMemory) → DemandThree file memory → (b : ℕ) → b ≤ budgetOf file

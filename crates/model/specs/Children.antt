@@ -5,7 +5,7 @@ use lib.Dec.{eqb}
 use Rattle.model.specs.File.{Tree, Demand}
 use Rattle.model.specs.Bill.{thousandths}
 
--- is u a child of v?
+-- is the site u a child of v? (Node 0 is no site; its own parent field is 0.)
 abbrev pub childOf : Tree → ℕ → ℕ → Bool
 childOf t v u = eqb (t .parent u) v
 

@@ -1,4 +1,5 @@
 -- The laws of the definitions, a to m, on one page. They are proved for every accepted file: `lawful` in proofs/Laws.
+-- Numbers are written out here, so that a wrong constant breaks a law.
 use mathlib.Core.Path.{_≡_}
 use mathlib.Core.Bool.{true, false, _||_}
 use mathlib.Core.List.{List, [], List·Memᴰ}

@@ -15,7 +15,7 @@ use Rattle.model.specs.Plan.{plan, planTotal}
 use Rattle.model.specs.Greedy.{greedyTotal}
 use Rattle.model.specs.Calls.{after, ScratchAfter, budgets, planTotals, planRows, planBuffersLong, greedyTotals, greedyRow, greedyBuffersLong}
 
--- ---- demand 3
+-- ---- demand 3, whose words are quoted from docs/PROMISES.md
 
 -- what a report guarantees at budget b, of the set and the two totals that it holds there
 pub record HoldsOptimum (t : Tree) (d : Demand) (b : ℕ) (held : List ℕ) (planHeld greedyHeld : ℕ) : Type 0 where

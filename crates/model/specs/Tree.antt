@@ -10,7 +10,7 @@ use Rattle.model.specs.File.{Tree}
 abbrev pub server : ℕ
 server = 0
 
--- from v up to the server, in at most k links
+-- from v up to the server; where k links do not reach it, the server follows at once
 unfoldable pub climb : (ℕ → ℕ) → ℕ → ℕ → List ℕ
 climb up zero v = 0 ∷ []
 climb up (suc k) zero = 0 ∷ []

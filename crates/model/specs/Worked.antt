@@ -10,7 +10,7 @@ use Rattle.model.specs.File.{fieldTable, treeOf, demandOf}
 use Rattle.model.specs.Rules.{Verdict, passed, broken, fileVerdict, scratchWords}
 use Rattle.model.specs.Bill.{totalLimit, total}
 use Rattle.model.specs.Calls.{Answer, answered, refused, after, checkNumber, recordBytes, billVerdict, servingNodes, linkLoads, BillMemory, BillCall, first, second, ranking, winner, planTotals, planRows, PlanMemory, planVerdict, PlanCall, greedyTotals, greedyRow, GreedyMemory, greedyVerdict, GreedyCall}
-use Rattle.model.specs.Report.{setOfRow, ReportMemory, reportVerdict, ReportCall, isSmall, programVerdict, programText}
+use Rattle.model.specs.Report.{setOfRow, ReportMemory, DemandThree, reportVerdict, ReportCall, isSmall, programVerdict, programText}
 use Rattle.model.specs.Hosts.{codeOf, wordsAsked, HostBillMemory, hostBillVerdict, HostBillCall}
 use Rattle.model.specs.Cases.{treeA}
 
@@ -103,6 +103,8 @@ pub record FileCases : Type 0 where
   pub tooDeep : fileVerdict (header 0x00 0x22 0x00 0x01 ++ serverRecord ++ chained 33) ≡ broken 8 33
   pub depthBeforeLength : fileVerdict (header 0x00 0x22 0x00 0x01 ++ serverRecord ++ chained 32
       ++ tenBytes 0x00 0x20 0x03 0xE9 0x00 0x00 0x00 0x00 0x00 0x00) ≡ broken 8 33
+  pub parentBeforeDepth : fileVerdict (header 0x00 0x22 0x00 0x01 ++ serverRecord ++ chained 32
+      ++ tenBytes 0x00 0x21 0x00 0x00 0x00 0x00 0x00 0x00 0x00 0x00) ≡ broken 7 33
   -- "Length 1,001: 9. Hit 1,001: 11", and flow 100,000,001: 10
   pub largestPass : fileVerdict largest ≡ passed
   pub lengthOver : fileVerdict tooLong ≡ broken 9 1
@@ -198,6 +200,10 @@ pub record CallCases : Type 0 where
   pub rowsOfPlan : planRows fileA ≡ 0 ∷ 0 ∷ 1 ∷ 0 ∷ 2 ∷ 3 ∷ []
   pub totalsOfGreedy : greedyTotals fileA ≡ 140000 ∷ 60000 ∷ 40000 ∷ []
   pub rowOfGreedy : greedyRow fileA ≡ 1 ∷ 2 ∷ []
+  -- "k nodes in order taken": nodes 1 and 2 under the server at length 3, with flow 4 and flow 5
+  pub orderTaken : greedyRow (header 0x00 0x03 0x00 0x02 ++ serverRecord
+      ++ tenBytes 0x00 0x00 0x00 0x03 0x00 0x00 0x00 0x04 0x03 0xE8
+      ++ tenBytes 0x00 0x00 0x00 0x03 0x00 0x00 0x00 0x05 0x03 0xE8) ≡ 2 ∷ 1 ∷ []
   pub setOfRowOne : setOfRow 2 (0 ∷ 0 ∷ 1 ∷ 0 ∷ 2 ∷ 3 ∷ []) 1 ≡ 1 ∷ []
   pub setOfRowTwo : setOfRow 2 (0 ∷ 0 ∷ 1 ∷ 0 ∷ 2 ∷ 3 ∷ []) 2 ≡ 2 ∷ 3 ∷ []
   -- "65 words pass, 64 give 13"; 9 nodes of height 8 with k 1: 9 × 9 × 2 + 4 × 9
@@ -214,12 +220,14 @@ pub record CallCases : Type 0 where
   pub greedyFileFirst : greedyVerdict tooLong (greedyMemory 0 0 0) ≡ broken 9 1
   pub reportPasses : reportVerdict fileA (reportMemory 65 3 6 3 2) ≡ passed
   pub reportScratchShort : reportVerdict fileA (reportMemory 64 0 0 0 0) ≡ broken 13 0
+  pub reportTotalsShort : reportVerdict fileA (reportMemory 65 2 6 3 2) ≡ broken 14 0
+  pub reportGreedyTotalsShort : reportVerdict fileA (reportMemory 65 3 6 2 2) ≡ broken 14 0
   pub reportPlanShort : reportVerdict fileA (reportMemory 65 3 5 3 2) ≡ broken 14 0
   pub reportGreedyShort : reportVerdict fileA (reportMemory 65 3 6 3 1) ≡ broken 14 0
   pub reportFileFirst : reportVerdict tooLong (reportMemory 0 0 0 0 0) ≡ broken 9 1
   -- "A C host passes a file's bytes and gets 0 or the number"; a code is record × 256 + number
-  pub hostHearsNone : checkNumber fileA ≡ 0
-  pub hostHears : checkNumber tooLong ≡ 9
+  pub checkOfAccepted : checkNumber fileA ≡ 0
+  pub checkOfRefused : checkNumber tooLong ≡ 9
   pub codeOfNone : codeOf (fileVerdict fileA) ≡ 0
   pub codeOfNine : codeOf (fileVerdict tooLong) ≡ 265
   pub wordsOfA : wordsAsked fileA ≡ 65
@@ -227,6 +235,7 @@ pub record CallCases : Type 0 where
   -- a host's bill: the buffer of the total has one entry
   pub hostBillPasses : hostBillVerdict fileA (1 ∷ []) (hostBillMemory 1 5 5) ≡ passed
   pub hostTotalShort : hostBillVerdict fileA (1 ∷ []) (hostBillMemory 0 5 5) ≡ broken 14 0
+  pub hostServingsShort : hostBillVerdict fileA (1 ∷ []) (hostBillMemory 1 4 5) ≡ broken 14 0
   pub hostLoadsShort : hostBillVerdict fileA (1 ∷ []) (hostBillMemory 1 5 4) ≡ broken 14 0
   pub hostSetFirst : hostBillVerdict fileA (5 ∷ []) (hostBillMemory 0 0 0) ≡ broken 12 0
   pub hostFileFirst : hostBillVerdict tooLong (5 ∷ []) (hostBillMemory 0 0 0) ≡ broken 9 1
@@ -244,6 +253,9 @@ pub record StatementCases : Type 0 where
       × (memory′ .totals ≡ 60000 ∷ 7 ∷ [])
       × (memory′ .servings ≡ 0 ∷ 1 ∷ 1 ∷ 1 ∷ 0 ∷ 7 ∷ [])
       × (memory′ .loads ≡ 0 ∷ 0 ∷ 20000 ∷ 20000 ∷ 5000 ∷ 7 ∷ [])
+  pub hostBillRefused : {v : Verdict} {memory memory′ : HostBillMemory} → HostBillCall tooLong [] memory v memory′
+      → (v ≡ broken 9 1)
+      × (memory′ .totals ≡ memory .totals) × (memory′ .servings ≡ memory .servings) × (memory′ .loads ≡ memory .loads)
   pub planSettled : {v : Verdict} {memory′ : PlanMemory} → PlanCall fileA (planMemory 66 4 7) v memory′
       → (v ≡ passed)
       × (length (memory′ .scratch) ≡ 66) × (drop 65 (memory′ .scratch) ≡ 7 ∷ [])
@@ -257,6 +269,14 @@ pub record StatementCases : Type 0 where
       × (length (memory′ .scratch) ≡ 66) × (drop 65 (memory′ .scratch) ≡ 7 ∷ [])
       × (memory′ .totals ≡ 140000 ∷ 60000 ∷ 40000 ∷ 7 ∷ [])
       × (memory′ .nodes ≡ 1 ∷ 2 ∷ 7 ∷ [])
+  pub greedyRefused : {v : Verdict} {memory memory′ : GreedyMemory} → GreedyCall tooLong memory v memory′
+      → (v ≡ broken 9 1)
+      × (memory′ .scratch ≡ memory .scratch) × (memory′ .totals ≡ memory .totals) × (memory′ .nodes ≡ memory .nodes)
+  pub reportRefused : {v : Verdict} {memory memory′ : ReportMemory} → ReportCall tooLong memory v memory′
+      → (v ≡ broken 9 1)
+      × (memory′ .scratch ≡ memory .scratch)
+      × (memory′ .planTotals ≡ memory .planTotals) × (memory′ .planRows ≡ memory .planRows)
+      × (memory′ .greedyTotals ≡ memory .greedyTotals) × (memory′ .greedyNodes ≡ memory .greedyNodes)
   pub reportSettled : {v : Verdict} {memory′ : ReportMemory} → ReportCall fileA (reportMemory 66 4 7 4 3) v memory′
       → (v ≡ passed)
       × (length (memory′ .scratch) ≡ 66) × (drop 65 (memory′ .scratch) ≡ 7 ∷ [])
@@ -264,6 +284,7 @@ pub record StatementCases : Type 0 where
       × (memory′ .planRows ≡ 0 ∷ 0 ∷ 1 ∷ 0 ∷ 2 ∷ 3 ∷ 7 ∷ [])
       × (memory′ .greedyTotals ≡ 140000 ∷ 60000 ∷ 40000 ∷ 7 ∷ [])
       × (memory′ .greedyNodes ≡ 1 ∷ 2 ∷ 7 ∷ [])
+      × DemandThree fileA memory′
 
 -- ---- the report program
 

@@ -36,7 +36,7 @@ pub record Serving (file : List ℕ) (n : ℕ) (k before servings : List ℕ) (v
   pub counted : cursor ≡ membersBefore k v
   pub written : servings ≡ sets before 0 (map (serving (treeOf file) k) (range 0 v))
 
--- the set that serving nodes tell: the sites that serve themselves
+-- the set, found from the serving nodes: the sites that serve themselves
 unfoldable pub selfServing : ℕ → List ℕ → List ℕ
 selfServing n servings = those (λ v. eqb (getD servings v 0) v) (range 1 (n - 1))
 

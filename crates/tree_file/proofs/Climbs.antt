@@ -32,7 +32,7 @@ module _ (file : List ℕ) (v : ℕ) where
   parent-less (suc x) y k z e =
       omega (arith, parent-before-to (treeOf file) (suc v) (k .climbable .preorder) x (omega (arith, k .under)))
 
-  pub climb-turns : (x y : ℕ) → Climbing file v x → (x ≡ 0 → ⊥) → y ≡ treeOf file .parent x → Climbing file v y
+  climb-turns : (x y : ℕ) → Climbing file v x → (x ≡ 0 → ⊥) → y ≡ treeOf file .parent x → Climbing file v y
   climb-turns x y k z e = record { climbable = k .climbable; under = omega (arith, parent-less x y k z e, k .under) }
 
   pub route-turns : (x y : ℕ) → Climbing file v x → (x ≡ 0 → ⊥) → y ≡ treeOf file .parent x → route (treeOf file) x ≡ x ∷ route (treeOf file) y
