@@ -16,8 +16,8 @@ static const char *const calls[CALLS] = { "report", "plan", "greedy" };
 static uint8_t file[FILE_BYTES];
 static size_t length;
 static uint64_t *scratch, *other_scratch;
-static uint64_t totals[BUDGET + 1], greedys[BUDGET + 1];
-static uint16_t rows[(BUDGET + 1) * BUDGET], taken[BUDGET];
+static uint64_t totals[BUDGET + 1], greedy_totals[BUDGET + 1];
+static uint16_t rows[(BUDGET + 1) * BUDGET], greedy_nodes[BUDGET];
 static struct tree tree;
 static struct plan plan;
 static struct greedy greedy;
@@ -25,10 +25,10 @@ static struct greedy greedy;
 static void proved(int call)
 {
     uint32_t answer =
-        call == 0 ? kterc_report(file, length, scratch, SCRATCH_WORDS, totals, BUDGET + 1, rows, (BUDGET + 1) * BUDGET, greedys,
-                                 BUDGET + 1, taken, BUDGET)
+        call == 0 ? kterc_report(file, length, scratch, SCRATCH_WORDS, totals, BUDGET + 1, rows, (BUDGET + 1) * BUDGET,
+                                 greedy_totals, BUDGET + 1, greedy_nodes, BUDGET)
         : call == 1 ? kterc_plan(file, length, scratch, SCRATCH_WORDS, totals, BUDGET + 1, rows, (BUDGET + 1) * BUDGET)
-                    : kterc_greedy(file, length, scratch, SCRATCH_WORDS, greedys, BUDGET + 1, taken, BUDGET);
+                    : kterc_greedy(file, length, scratch, SCRATCH_WORDS, greedy_totals, BUDGET + 1, greedy_nodes, BUDGET);
     if (answer) {
         printf("refused %u\n", answer);
         exit(1);
@@ -60,7 +60,8 @@ static void same_answers(const char *name)
 {
     proved(0);
     reference(0, &planner_o2, RUNS);
-    int same = !memcmp(totals, plan.total, (tree.k + 1) * sizeof *totals) && !memcmp(greedys, greedy.total, (tree.k + 1) * sizeof *totals);
+    int same = !memcmp(totals, plan.total, (tree.k + 1) * sizeof *totals)
+               && !memcmp(greedy_totals, greedy.total, (tree.k + 1) * sizeof *totals);
     if (same) return;
     printf("%s: the answers differ\n", name);
     exit(1);

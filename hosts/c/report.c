@@ -79,14 +79,15 @@ int main(int argc, char **argv)
     size_t words = kterc_scratch_words(file, length);
     size_t k = words ? file[7] * 256u + file[8] : 0; /* the budget of an accepted file */
     uint64_t *scratch = lent(words, sizeof *scratch);
-    uint64_t *totals = lent(k + 1, sizeof *totals), *greedys = lent(k + 1, sizeof *greedys);
-    uint16_t *rows = lent((k + 1) * k, sizeof *rows), *taken = lent(k, sizeof *taken);
-    uint32_t answer = kterc_report(file, length, scratch, words, totals, k + 1, rows, (k + 1) * k, greedys, k + 1, taken, k);
+    uint64_t *totals = lent(k + 1, sizeof *totals), *greedy_totals = lent(k + 1, sizeof *greedy_totals);
+    uint16_t *rows = lent((k + 1) * k, sizeof *rows), *greedy_nodes = lent(k, sizeof *greedy_nodes);
+    uint32_t answer = kterc_report(file, length, scratch, words, totals, k + 1, rows, (k + 1) * k, greedy_totals, k + 1,
+                                   greedy_nodes, k);
     if (answer)
         printf("refused %u %u: %s\n", KTERC_RULE(answer), KTERC_RECORD(answer), rules[KTERC_RULE(answer)]);
     else
         for (size_t b = 0; b <= k; b++)
-            print_line(b, totals[b], greedys[b], rows + b * k, k);
-    free(taken), free(rows), free(greedys), free(totals), free(scratch), free(file);
+            print_line(b, totals[b], greedy_totals[b], rows + b * k, k);
+    free(greedy_nodes), free(rows), free(greedy_totals), free(totals), free(scratch), free(file);
     return answer ? 1 : 0;
 }

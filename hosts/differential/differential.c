@@ -107,15 +107,16 @@ static void try_report(void)
 {
     size_t k = at.k, words = vary(at.words), t = vary(k + 1), r = vary((k + 1) * k), g = vary(k + 1), s = vary(k);
     struct lent scratch = lend(words, 8, &seed), totals = lend(t, 8, &seed), rows = lend(r, 2, &seed);
-    struct lent greedys = lend(g, 8, &seed), taken = lend(s, 2, &seed);
+    struct lent greedy_totals = lend(g, 8, &seed), greedy_nodes = lend(s, 2, &seed);
     uint32_t answer = kterc_report(at.file, at.length, (uint64_t *)scratch.memory, words, (uint64_t *)totals.memory, t,
-                                   (uint16_t *)rows.memory, r, (uint64_t *)greedys.memory, g, (uint16_t *)taken.memory, s);
+                                   (uint16_t *)rows.memory, r, (uint64_t *)greedy_totals.memory, g,
+                                   (uint16_t *)greedy_nodes.memory, s);
     int buffers_long = t >= k + 1 && r >= (k + 1) * k && g >= k + 1 && s >= k;
     check_that(answer == first_broken(13, words >= at.words, buffers_long), "the report's answer");
     check_array(&totals, answer, at.plan.total, (k + 1) * 8, "the report's plan totals");
     check_array(&rows, answer, plan_rows(), (k + 1) * k * 2, "the report's plan rows");
-    check_array(&greedys, answer, at.greedy.total, (k + 1) * 8, "the report's greedy totals");
-    check_array(&taken, answer, at.greedy.node, k * 2, "the report's greedy nodes");
+    check_array(&greedy_totals, answer, at.greedy.total, (k + 1) * 8, "the report's greedy totals");
+    check_array(&greedy_nodes, answer, at.greedy.node, k * 2, "the report's greedy nodes");
     check_scratch(&scratch, answer);
 }
 

@@ -41,8 +41,8 @@ static struct {
 } at;
 
 static struct {
-    uint64_t scratch[SCRATCH_WORDS], totals[BUDGET + 1], greedys[BUDGET + 1], loads[NODES];
-    uint16_t rows[(BUDGET + 1) * BUDGET], taken[BUDGET], serving[NODES];
+    uint64_t scratch[SCRATCH_WORDS], totals[BUDGET + 1], greedy_totals[BUDGET + 1], loads[NODES];
+    uint16_t rows[(BUDGET + 1) * BUDGET], greedy_nodes[BUDGET], serving[NODES];
 } memory;
 
 static void check(void) { at.answer = kterc_check(at.file, at.length); }
@@ -62,13 +62,14 @@ static void plan(void)
 
 static void greedy(void)
 {
-    at.answer = kterc_greedy(at.file, at.length, memory.scratch, SCRATCH_WORDS, memory.greedys, BUDGET + 1, memory.taken, BUDGET);
+    at.answer = kterc_greedy(at.file, at.length, memory.scratch, SCRATCH_WORDS, memory.greedy_totals, BUDGET + 1,
+                             memory.greedy_nodes, BUDGET);
 }
 
 static void report(void)
 {
     at.answer = kterc_report(at.file, at.length, memory.scratch, SCRATCH_WORDS, memory.totals, BUDGET + 1, memory.rows,
-                             (BUDGET + 1) * BUDGET, memory.greedys, BUDGET + 1, memory.taken, BUDGET);
+                             (BUDGET + 1) * BUDGET, memory.greedy_totals, BUDGET + 1, memory.greedy_nodes, BUDGET);
 }
 
 static struct { const char *name; void (*call)(void); size_t stated, most; } calls[] = {
