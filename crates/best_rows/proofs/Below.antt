@@ -15,7 +15,7 @@ use Rattle.model.specs.Rules.{isSet}
 use Rattle.model.specs.Ties.{members}
 use Rattle.model.specs.Preorder.{Preorder}
 use Rattle.model.proofs.Routes.{route-server, parent-before, route-up, by-route, route-before}
-use Rattle.model.proofs.Ascending.{ascends-range, ascends-those, same-members}
+use Rattle.model.proofs.Ascending.{ascends-range, ascends-those, same-members, set-ascends}
 use Rattle.best_rows.specs.Rows.{Row, empty, node, rowNodes, choiceOf, rowCount}
 use Rattle.best_rows.specs.TreeRows.{rowAfter, serverRow}
 use Rattle.best_rows.specs.BestAt.{one}
@@ -32,7 +32,7 @@ row-counts k (node v a b) l = omega (arith, row-counts k a (rowNodes b l), row-c
 set-is-those : (t : Tree) (k : List ℕ) → isSet t k ≡ true → k ≡ those (has k) (sites t)
 set-is-those t k g =
     let n = t .count in
-    same-members n 0 k (those (has k) (sites t)) g (ascends-those n (has k) 0 (sites t) (ascends-range n 0 (n - 1) (omega arith)))
+    same-members n 0 k (those (has k) (sites t)) (set-ascends t k g) (ascends-those n (has k) 0 (sites t) (ascends-range n 0 (n - 1) (omega arith)))
     (λ v i j. rw (has-those (has k) v (sites t), in-range 1 (n - 1) v i (omega arith), and-true))
 
 -- the nodes of a row in front of a list, all or none

@@ -8,7 +8,7 @@ use native.Mathlib.Omega.{arith}
 use borrow.Author.Tests.{lt-ltb, le-ltb}
 use Rattle.best_rows.specs.Least.{firstLeast}
 use Rattle.best_rows.specs.Rows.{Row, empty, node, Choice, Site, rowCount, rowCost, favour, Before, RanksNoLater}
-use Rattle.best_rows.specs.Best.{cap, costIf, ownChoice, nodeBest, split, rowBest, best, childrenBest, later, own, choose, chooseWithin}
+use Rattle.best_rows.specs.Best.{cap, costIf, ownChoice, nodeBest, split, later, rowBest, costsOf, best, choose, chooseWithin}
 use Rattle.best_rows.proofs.Least.{better-cases, first-least-within, first-least-wins}
 
 -- ---- one node's own choice
@@ -29,15 +29,19 @@ module _ (w pay : Bool → ℕ) (children : Bool → ℕ → ℕ) (n : ℕ) (u :
 abbrev WinsChoice : (Bool → ℕ) → Bool → Bool → Bool → Type 0
 WinsChoice f p u x = (f x ≤ f u) × (f x ≡ f u → favour p u ≤ favour p x)
 
-module _ (w pay : Bool → ℕ) (children : Bool → ℕ → ℕ) (n : ℕ) where
-  own-choice-wins : (p u : Bool) → WinsChoice (costIf w pay children n) p u (ownChoice w p pay children n)
+module _ (costs : ℕ → Bool → ℕ) (n : ℕ) where
+  own-choice-wins : (p u : Bool) → WinsChoice (costs n) p u (ownChoice p costs n)
   unfolding ownChoice
-  own-choice-wins true true = better-cases (WinsChoice (costIf w pay children n) true true) _ _ _ (λ h. omega arith) (λ h. omega arith)
-  own-choice-wins true false = better-cases (WinsChoice (costIf w pay children n) true false) _ _ _ (λ h. omega arith) (λ h. omega arith)
-  own-choice-wins false true = better-cases (WinsChoice (costIf w pay children n) false true) _ _ _ (λ h. omega arith) (λ h. omega arith)
-  own-choice-wins false false = better-cases (WinsChoice (costIf w pay children n) false false) _ _ _ (λ h. omega arith) (λ h. omega arith)
+  own-choice-wins true true = better-cases (WinsChoice (costs n) true true) _ _ _ (λ h. omega arith) (λ h. omega arith)
+  own-choice-wins true false = better-cases (WinsChoice (costs n) true false) _ _ _ (λ h. omega arith) (λ h. omega arith)
+  own-choice-wins false true = better-cases (WinsChoice (costs n) false true) _ _ _ (λ h. omega arith) (λ h. omega arith)
+  own-choice-wins false false = better-cases (WinsChoice (costs n) false false) _ _ _ (λ h. omega arith) (λ h. omega arith)
 
 module _ {C : Type 0} (w : ℕ → Bool → ℕ) (p : Bool) (s : ℕ → Site C) where
+  -- what node v and the row a of its children cost, by v's own choice
+  abbrev costs : ℕ → Row → C → ℕ → Bool → ℕ
+  costs v a c = costsOf w p s v c (best w p s a)
+
   -- ---- the least is never above the cap, and below it the choice found has that count and that cost
 
   pub best-within-cap : (r : Row) (c : C) (m : ℕ) → best w p s r c m ≤ cap
@@ -52,12 +56,12 @@ module _ {C : Type 0} (w : ℕ → Bool → ℕ) (p : Bool) (s : ℕ → Site C)
   best-attained empty c zero h = (refl, refl)
   best-attained empty c (suc m) h = omega arith
   best-attained (node v a b) c m h =
-      let r = later w p s v a b c m in
-      let u = own w p s v a c (m - r) in
-      let fits = cost-if-fits (w v) (s v .pay c) (childrenBest w p s v a c) (m - r) u (omega arith) in
+      let r = later (nodeBest p (costs v a c)) (best w p s b c) m in
+      let u = ownChoice p (costs v a c) (m - r) in
+      let fits = cost-if-fits (w v) (s v .pay c) (λ u. best w p s a (s v .down c u)) (m - r) u (omega arith) in
       let children = best-attained a (s v .down c u) (m - r - w v u) (omega arith) in
       let siblings = best-attained b c r (omega arith) in
-      omega (arith, first-least-within (split (w v) p (s v .pay c) (childrenBest w p s v a c) (best w p s b c) m) m)
+      omega (arith, first-least-within (split (nodeBest p (costs v a c)) (best w p s b c) m) m)
 
   -- ---- no choice y of count m costs less, and of those that cost as little none comes before the one found
 
@@ -70,16 +74,16 @@ module _ {C : Type 0} (w : ℕ → Bool → ℕ) (p : Bool) (s : ℕ → Site C)
   node-first : (v : ℕ) (a : Row) (c : C) (u : Bool) (y : Choice a) (n : ℕ)
       → ((e : C) (m : ℕ) → rowCount w a y ≡ m → rowCost s a e y < cap → FindsFirst a e m y)
       → w v u + rowCount w a y ≡ n → s v .pay c u + rowCost s a (s v .down c u) y < cap
-      → let x = own w p s v a c n in
-      (nodeBest (w v) p (s v .pay c) (childrenBest w p s v a c) n ≤ s v .pay c u + rowCost s a (s v .down c u) y)
-      × (nodeBest (w v) p (s v .pay c) (childrenBest w p s v a c) n ≡ s v .pay c u + rowCost s a (s v .down c u) y
+      → let x = ownChoice p (costs v a c) n in
+      (nodeBest p (costs v a c) n ≤ s v .pay c u + rowCost s a (s v .down c u) y)
+      × (nodeBest p (costs v a c) n ≡ s v .pay c u + rowCost s a (s v .down c u) y
       → (favour p u ≤ favour p x)
       × (x ≡ u → (rest : Type 0) → rest → Before w p a (choose w p s a (s v .down c x) (n - w v x)) y rest))
   unfolding nodeBest
   node-first v a c u y n ih e h =
       let children = ih (s v .down c u) (n - w v u) (omega arith) (omega arith) in
-      let is = cost-if-is (w v) (s v .pay c) (childrenBest w p s v a c) n u (omega arith) in
-      let won = own-choice-wins (w v) (s v .pay c) (childrenBest w p s v a c) n p u in
+      let is = cost-if-is (w v) (s v .pay c) (λ u. best w p s a (s v .down c u)) n u (omega arith) in
+      let won = own-choice-wins (costs v a c) n p u in
       (omega arith, λ eq. (won .1 (omega arith), λ same. rw same (children .1 (omega arith))))
 
   -- of a row
@@ -88,11 +92,11 @@ module _ {C : Type 0} (w : ℕ → Bool → ℕ) (p : Bool) (s : ℕ → Site C)
   best-first empty y c zero e h = (omega arith, λ _ rest z. z)
   best-first empty y c (suc m) e h = absurd (omega arith)
   best-first (node v a b) y c m e h =
-      let r = later w p s v a b c m in
+      let r = later (nodeBest p (costs v a c)) (best w p s b c) m in
       let k = rowCount w b (y .2) in
       let here = node-first v a c (y .0) (y .1) (m - k) (best-first a (y .1)) (omega arith) (omega arith) in
       let siblings = best-first b (y .2) c k refl (omega arith) in
-      let won = first-least-wins (split (w v) p (s v .pay c) (childrenBest w p s v a c) (best w p s b c) m) m k (omega arith) in (
+      let won = first-least-wins (split (nodeBest p (costs v a c)) (best w p s b c) m) m k (omega arith) in (
         omega arith,
         λ eq rest z.
             let no-later : r ≤ k = won .1 (omega arith) in

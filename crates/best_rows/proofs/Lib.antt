@@ -5,9 +5,9 @@ pub mod Cover
 pub mod Below
 pub mod Totals
 pub mod Ties
+pub mod Guarded
 pub mod Chosen
 pub mod RanksFirst
 pub mod Optimum
 pub mod Table
-pub mod Guarded
 pub mod TwoCounts

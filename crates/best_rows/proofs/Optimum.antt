@@ -1,6 +1,8 @@
--- The dynamic program finds the plan: its caches are the plan's nodes, and its least is the plan's total.
-use mathlib.Core.Path.{_≡_, sym, ap, _∙_}
-use mathlib.Core.List.{List}
+-- The dynamic program finds the first of the allowed sets; where everything is allowed that is the plan, and its least is the
+-- plan's total.
+use mathlib.Core.Path.{_≡_, refl, sym, ap, _∙_}
+use mathlib.Core.Bool.{Bool}
+use mathlib.Core.List.{List, []}
 use Prim.Native.Nat.{ℕ, _-_}
 use native.Mathlib.Omega.{arith}
 use Rattle.model.specs.File.{Tree, Demand, treeOf, demandOf}
@@ -9,39 +11,42 @@ use Rattle.model.specs.Bill.{total}
 use Rattle.model.specs.Plan.{plan, planTotal}
 use Rattle.model.specs.Accepted.{Sound}
 use Rattle.model.proofs.Accepted.{accepted-sound}
+use Rattle.model.proofs.Ascending.{empty-is-set}
 use Rattle.model.proofs.Plans.{only-plan}
-use Rattle.best_rows.specs.Least.{firstLeast}
-use Rattle.best_rows.specs.Rows.{chosen}
-use Rattle.best_rows.specs.Best.{best, chooseWithin}
+use Rattle.best_rows.specs.Guarded.{free, AllowedSet, RanksFirstAllowed}
 use Rattle.best_rows.specs.TreeRows.{nodesAfter, firstChild, rowAt, serverRow}
-use Rattle.best_rows.specs.BestAt.{one, prefer, site, bestAt, bestNodes, leastCount}
+use Rattle.best_rows.specs.BestAt.{bestAt, bestNodes, leastCount}
 use Rattle.best_rows.proofs.TreeRows.{row-at-first}
-use Rattle.best_rows.proofs.RanksFirst.{nodesFound, nodes-found-rank-first, nodes-found-total}
+use Rattle.best_rows.proofs.RanksFirst.{nodes-found-rank-first, nodes-found-total}
 
 -- the row that begins with the server's first child is the server's row
 row-at-server : (t : Tree) → rowAt t (firstChild t 0) ≡ serverRow t
 unfolding firstChild
 row-at-server t = let all : nodesAfter t 0 ≡ t .count - 1 = omega arith in rw all (row-at-first t (t .count - 1) 0 0 (omega arith))
 
-module _ (t : Tree) (d : Demand) (ok : Sound t d) (b : ℕ) where
-  best-nodes-are-plan : bestNodes t d (firstChild t 0) 0 (leastCount t d b) ≡ plan t d b
-  unfolding bestNodes bestAt leastCount
-  best-nodes-are-plan =
-      ap (λ r. chosen r (chooseWithin one prefer (site t d) r 0 b)) (row-at-server t)
-      ∙ only-plan t d b (nodesFound t d b) (nodes-found-rank-first t d ok b)
+-- of the sets of at most b nodes that keep to what is allowed, if there is one, the nodes found rank first, at the least cost found
+pub allowed-found : (t : Tree) (d : Demand) → Sound t d → (allows : ℕ → Bool → Bool) (b : ℕ) (l : List ℕ) → AllowedSet t allows b l
+    → let m = leastCount t d allows b in
+    let k = bestNodes t d allows (firstChild t 0) 0 m in
+    RanksFirstAllowed t d allows b k × (total t d k ≡ bestAt t d allows (firstChild t 0) 0 m)
+unfolding bestNodes bestAt leastCount
+allowed-found t d ok allows b l some =
+    let here = row-at-server t in
+    (rw (← here) at (nodes-found-rank-first t d ok allows b l some), rw (← here) at (nodes-found-total t d ok allows b l some))
 
-  best-at-is-plan-total : bestAt t d (firstChild t 0) 0 (leastCount t d b) ≡ planTotal t d b
-  unfolding bestAt leastCount
-  best-at-is-plan-total =
-      ap (λ r. let f = best one prefer (site t d) r 0 in f (firstLeast f b)) (row-at-server t)
-      ∙ sym (nodes-found-total t d ok b)
-      ∙ ap (total t d) (only-plan t d b (nodesFound t d b) (nodes-found-rank-first t d ok b))
-
--- for every accepted file and every budget
+-- where everything is allowed that is the plan, for every accepted file and every budget
 pub optimum-found : (file : List ℕ) → fileVerdict file ≡ passed → (b : ℕ)
     → let t = treeOf file in let d = demandOf file in
-    (bestNodes t d (firstChild t 0) 0 (leastCount t d b) ≡ plan t d b)
-    × (bestAt t d (firstChild t 0) 0 (leastCount t d b) ≡ planTotal t d b)
+    (bestNodes t d free (firstChild t 0) 0 (leastCount t d free b) ≡ plan t d b)
+    × (bestAt t d free (firstChild t 0) 0 (leastCount t d free b) ≡ planTotal t d b)
 optimum-found file fits b =
-    let ok = accepted-sound file fits in
-    (best-nodes-are-plan (treeOf file) (demandOf file) ok b, best-at-is-plan-total (treeOf file) (demandOf file) ok b)
+    let t = treeOf file in
+    let d = demandOf file in
+    let found = allowed-found t d (accepted-sound file fits) free b [] (record { isASet = empty-is-set t; within = omega arith; allowed = λ v _. refl }) in
+    let first = found .0 in
+    let is = only-plan t d b _ (record {
+      isASet = first .fits .isASet;
+      within = first .fits .within;
+      first = λ l g h. first .first l (record { isASet = g; within = h; allowed = λ v _. refl });
+    }) in
+    (is, sym (found .1) ∙ ap (total t d) is)

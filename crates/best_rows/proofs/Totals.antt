@@ -2,14 +2,14 @@
 use mathlib.Core.Path.{_≡_, sym, ap}
 use mathlib.Core.Bool.{cond}
 use mathlib.Core.List.{List, []}
-use Prim.Native.Nat.{ℕ, zero, suc, _+_, _-_, _*_, _≤_}
+use Prim.Native.Nat.{ℕ, zero, suc, _+_, _-_, _≤_}
 use native.Mathlib.Omega.{arith}
 use Rattle.laws.specs.Lists.{range, sum, has}
 use Rattle.model.specs.File.{Tree, Demand}
-use Rattle.model.specs.Tree.{distance}
-use Rattle.model.specs.Bill.{thousandths, price, cost, total, serving}
+use Rattle.model.specs.Bill.{cost, total, serving}
 use Rattle.model.specs.Preorder.{Preorder}
 use Rattle.model.proofs.Routes.{distance-server}
+use Rattle.model.proofs.Amounts.{price-amounts}
 use Rattle.model.proofs.Nearest.{serving-server, serving-up, cost-is}
 use Rattle.best_rows.specs.Rows.{rowNodes, choiceOf, rowCost}
 use Rattle.best_rows.specs.TreeRows.{rowAfter, serverRow}
@@ -33,10 +33,8 @@ module _ (t : Tree) (d : Demand) (pre : Preorder t) (k : List ℕ) where
       (λ _. row-cost-is-sum n (suc i) p l)
 
   server-pays-none : t .linkLength 0 ≡ 0 → cost t d k 0 ≡ 0
-  unfolding price
   server-pays-none z =
-      let none : thousandths * distance t 0 - d .hit 0 * distance t (serving t k 0) ≡ 0 = omega (arith, distance-server t z) in
-      rw (cost-is t pre k d 0, none) (omega arith)
+      rw (cost-is t pre k d 0, price-amounts d 0 t (serving t k 0), distance-server t z) (omega arith)
 
   pub total-is-row-cost : 1 ≤ t .count → t .linkLength 0 ≡ 0 → total t d k ≡ rowCost (site t d) (serverRow t) 0 (choiceOf k (serverRow t))
   unfolding total sum range

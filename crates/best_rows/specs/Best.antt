@@ -10,58 +10,57 @@ use Rattle.best_rows.specs.Rows.{Row, empty, node, Choice, Site}
 unfoldable pub cap : ℕ
 cap = totalLimit
 
--- ---- one step, at the first node of a row. Its own choice u (cache or not) counts for w u and costs `pay u`. `children u n` is
--- the least cost of the row of its children with count n if its choice is u, and `siblings n` that of its later siblings. Of two
--- choices that cost the same, p is preferred.
+-- ---- one step, at the first node of a row
 
--- what the node and the row of its children cost with count n, if the node's own choice is u
+-- what the node and the row of its children cost with count n, if the node's own choice u (cache or not) counts for w u and costs
+-- `pay u`, and `children u n` is the least cost of its children with count n
 unfoldable pub costIf : (Bool → ℕ) → (Bool → ℕ) → (Bool → ℕ → ℕ) → ℕ → Bool → ℕ
 costIf w pay children n u = cond (ltb n (w u)) cap (pay u + children u (n - w u))
 
-module _ (w : Bool → ℕ) (p : Bool) (pay : Bool → ℕ) (children : Bool → ℕ → ℕ) where
+-- where that is `costs n u`, and of two choices that cost the same p is preferred
+module _ (p : Bool) (costs : ℕ → Bool → ℕ) where
   -- the node's own choice at count n: p, unless the other costs less
   unfoldable pub ownChoice : ℕ → Bool
-  ownChoice n = better (costIf w pay children n) p (not p)
+  ownChoice n = better (costs n) p (not p)
 
   -- the least cost of the node and its children with count n
   unfoldable pub nodeBest : ℕ → ℕ
-  nodeBest n = costIf w pay children n (ownChoice n)
+  nodeBest n = costs n (ownChoice n)
 
+-- where that is `first n`, and `siblings n` is the least cost of the node's later siblings with count n
+module _ (first siblings : ℕ → ℕ) where
   -- the cost of the row with count m, of which r are among the later siblings
-  unfoldable pub split : (ℕ → ℕ) → ℕ → ℕ → ℕ
-  split siblings m r = nodeBest (m - r) + siblings r
+  unfoldable pub split : ℕ → ℕ → ℕ
+  split m r = first (m - r) + siblings r
 
-  -- the least cost of the row with count m, over all r
-  unfoldable pub rowBest : (ℕ → ℕ) → ℕ → ℕ
-  rowBest siblings m = let f = split siblings m in min cap (f (firstLeast f m))
+  -- how much of count m is among the later siblings: the smallest number at which the split costs least
+  abbrev pub later : ℕ → ℕ
+  later m = firstLeast (split m) m
+
+  -- the least cost of the row with count m
+  unfoldable pub rowBest : ℕ → ℕ
+  rowBest m = min cap (split m (later m))
 
 -- ---- a row under a context (what it meets from above), where node v counts for w v, p is preferred, and s v has v's costs
 
 module _ {C : Type 0} (w : ℕ → Bool → ℕ) (p : Bool) (s : ℕ → Site C) where
+  -- what node v and its children cost, if `children e` has the least costs of their row under context e
+  abbrev pub costsOf : ℕ → C → (C → ℕ → ℕ) → ℕ → Bool → ℕ
+  costsOf v c children = costIf (w v) (s v .pay c) (λ u. children (s v .down c u))
+
   -- the least cost with count m
   unfoldable pub best : Row → C → ℕ → ℕ
   best empty c zero = 0
   best empty c (suc m) = cap
-  best (node v a b) c m = rowBest (w v) p (s v .pay c) (λ u. best a (s v .down c u)) (best b c) m
-
-  -- the least cost of the children of v, by v's own choice
-  abbrev pub childrenBest : ℕ → Row → C → Bool → ℕ → ℕ
-  childrenBest v a c u = best a (s v .down c u)
-
-  -- how much of count m is among the later siblings: the smallest number at which the split costs least
-  abbrev pub later : ℕ → Row → Row → C → ℕ → ℕ
-  later v a b c m = firstLeast (split (w v) p (s v .pay c) (childrenBest v a c) (best b c) m) m
-
-  -- the first node's own choice at count n at or below it
-  abbrev pub own : ℕ → Row → C → ℕ → Bool
-  own v a c n = ownChoice (w v) p (s v .pay c) (childrenBest v a c) n
+  best (node v a b) c m = rowBest (nodeBest p (costsOf v c (best a))) (best b c) m
 
   -- the choice that costs the least, by these splits and own choices
   unfoldable pub choose : (r : Row) → C → ℕ → Choice r
   choose empty c m = tt
   choose (node v a b) c m =
-      let r = later v a b c m in
-      let u = own v a c (m - r) in
+      let costs = costsOf v c (best a) in
+      let r = later (nodeBest p costs) (best b c) m in
+      let u = ownChoice p costs (m - r) in
       (u, choose a (s v .down c u) (m - r - w v u), choose b c r)
 
   -- the choice where the count may be anything up to b: the smallest count that costs least

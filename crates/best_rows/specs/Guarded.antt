@@ -1,9 +1,20 @@
 -- Costs where not every choice is allowed at a node: a cache may be forbidden there, or required.
 use mathlib.Core.Path.{_≡_}
 use mathlib.Core.Bool.{Bool, true, cond}
-use Prim.Native.Nat.{ℕ}
+use mathlib.Core.List.{List}
+use Prim.Native.Nat.{ℕ, _≤_}
+use lib.ListN.{length}
+use Rattle.laws.specs.Lists.{has}
+use Rattle.model.specs.File.{Tree, Demand}
+use Rattle.model.specs.Tree.{sites}
+use Rattle.model.specs.Rules.{isSet}
+use Rattle.model.specs.Ties.{ranksBefore}
 use Rattle.best_rows.specs.Rows.{Row, empty, node, Choice, Site}
 use Rattle.best_rows.specs.Best.{cap}
+
+-- everything is allowed
+abbrev pub free : ℕ → Bool → Bool
+free v u = true
 
 module _ (allows : ℕ → Bool → Bool) where
   -- what is not allowed costs the cap
@@ -14,3 +25,18 @@ module _ (allows : ℕ → Bool → Bool) where
   abbrev pub Allowed : (r : Row) → Choice r → Type 0
   Allowed empty x = Unit {0}
   Allowed (node v a b) x = (allows v (x .0) ≡ true) × Allowed a (x .1) × Allowed b (x .2)
+
+  -- a set that keeps to it at each node of a list
+  abbrev pub KeepsTo : List ℕ → List ℕ → Type 0
+  KeepsTo k l = (v : ℕ) → has l v ≡ true → allows v (has k v) ≡ true
+
+-- K is a set of at most b nodes that keeps to what is allowed
+pub record AllowedSet (t : Tree) (allows : ℕ → Bool → Bool) (b : ℕ) (k : List ℕ) : Type 0 where
+  pub isASet : isSet t k ≡ true
+  pub within : length k ≤ b
+  pub allowed : KeepsTo allows k (sites t)
+
+-- K is such a set, and ranks before every other one
+pub record RanksFirstAllowed (t : Tree) (d : Demand) (allows : ℕ → Bool → Bool) (b : ℕ) (k : List ℕ) : Type 0 where
+  pub fits : AllowedSet t allows b k
+  pub first : (l : List ℕ) → AllowedSet t allows b l → (l ≡ k → ⊥) → ranksBefore t d k l ≡ true

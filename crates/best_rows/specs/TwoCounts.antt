@@ -1,4 +1,5 @@
 -- Two counts at once: at most k members, of which at most q are outside a standing set. One number carries both.
+-- Nothing cites it yet: it is for 02, item 14.
 use mathlib.Core.Bool.{Bool, cond, _&&_}
 use Prim.Native.Nat.{ℕ, _+_, _*_, _%_}
 use lib.Dec.{leb}

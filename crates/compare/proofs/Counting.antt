@@ -1,5 +1,6 @@
 -- Laws of the count of members at or below each node: how it begins, a climb from one member, and its end.
 use mathlib.Core.Path.{_≡_, refl, sym, _∙_}
+use mathlib.Core.Bool.{true}
 use mathlib.Core.List.{List}
 use Prim.Native.Nat.{ℕ, _+_, _≤_, _<_}
 use native.Mathlib.Numerals.{add-one}
@@ -11,9 +12,11 @@ use Rattle.laws.specs.Lists.{howMany}
 use Rattle.laws.proofs.Counts.{bit-le, how-many-snoc, how-many-le}
 use Rattle.model.specs.File.{Tree, treeOf, demandOf, mostNodes}
 use Rattle.model.specs.Tree.{atOrBelow}
+use Rattle.model.specs.Rules.{ascends}
 use Rattle.model.specs.Ties.{members}
 use Rattle.model.specs.Preorder.{Preorder}
 use Rattle.model.specs.Accepted.{Sound}
+use Rattle.model.proofs.Ascending.{set-ascends}
 use Rattle.model.proofs.Intervals.{below-self, before-not-below, parent-earlier, below-other}
 use Rattle.placement.specs.Passes.{Billable}
 use Rattle.placement.proofs.Members.{set-size, entry-in-set}
@@ -70,12 +73,15 @@ module _ {file k before : List ℕ} (given : Countable file k before) {j : ℕ} 
   sound : Sound t (demandOf file)
   sound = given .given .ofFile .sound
 
+  in-tree : ascends 0 (t .count) k ≡ true
+  in-tree = set-ascends t k (given .given .ofNodes)
+
   few-members : length k < mostNodes
-  few-members = omega (arith, set-size (t .count) 0 k (sound .some) (given .given .ofNodes), sound .few)
+  few-members = omega (arith, set-size (t .count) 0 k (sound .some) in-tree, sound .few)
 
   pub member-begins : Counted t (take j k) before → ClimbedTo file k before before j (getD k j 0)
   member-begins c = record {
-    inFile = entry-in-set (t .count) 0 k j h (given .given .ofNodes) .1;
+    inFile = entry-in-set (t .count) 0 k j h in-tree .1;
     kept = refl;
     climbing = climb-begins t (take j k) before (getD k j 0) c;
   }

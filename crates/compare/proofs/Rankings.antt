@@ -10,6 +10,7 @@ use Rattle.model.specs.File.{treeOf, demandOf, countOf}
 use Rattle.model.specs.Rules.{passed, broken, fileVerdict, ascends}
 use Rattle.model.specs.Ties.{ranksBefore}
 use Rattle.model.specs.Calls.{Answer, answered, refused, Winner, first, second, rankVerdict, ranking, named, winner}
+use Rattle.model.proofs.Ascending.{set-told}
 use Rattle.compare.specs.Answers.{rankingOf, WinnerHandedBack}
 use Rattle.compare.specs.declared.Ranking.{Ranking}
 
@@ -23,21 +24,21 @@ module _ (file k l : List ℕ) where
     -- rule 12, of the first set and then of the second
     pub ranking-refused-first : ascends 0 n k ≡ false → refused 12 0 ≡ ranking file k l
     unfolding ranking rankVerdict
-    ranking-refused-first e = rw (sym ok, rw nodes at e)
+    ranking-refused-first e = rw (sym ok, set-told (treeOf file) k nodes e)
 
     module _ (first-set : ascends 0 n k ≡ true) where
       pub ranking-refused-second : ascends 0 n l ≡ false → refused 12 0 ≡ ranking file k l
       unfolding ranking rankVerdict
-      ranking-refused-second e = rw (sym ok, rw nodes at first-set, rw nodes at e)
+      ranking-refused-second e = rw (sym ok, set-told (treeOf file) k nodes first-set, set-told (treeOf file) l nodes e)
 
       module _ (second-set : ascends 0 n l ≡ true) where
         pub ranking-second : ranksBefore (treeOf file) (demandOf file) l k ≡ true → answered second ≡ ranking file k l
         unfolding ranking rankVerdict
-        ranking-second e = rw (sym ok, rw nodes at first-set, rw nodes at second-set, e)
+        ranking-second e = rw (sym ok, set-told (treeOf file) k nodes first-set, set-told (treeOf file) l nodes second-set, e)
 
         pub ranking-first : ranksBefore (treeOf file) (demandOf file) l k ≡ false → answered first ≡ ranking file k l
         unfolding ranking rankVerdict
-        ranking-first e = rw (sym ok, rw nodes at first-set, rw nodes at second-set, e)
+        ranking-first e = rw (sym ok, set-told (treeOf file) k nodes first-set, set-told (treeOf file) l nodes second-set, e)
 
 module _ (file : List ℕ) (k l r : Slice u16) where
   -- the slice handed back holds the set that an answer names

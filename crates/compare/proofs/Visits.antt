@@ -12,10 +12,11 @@ use Rattle.laws.proofs.Bools.{cast-is-bit, differ, alike, by-test}
 use Rattle.laws.proofs.Ranges.{range-first, range-none}
 use Rattle.laws.proofs.Counts.{bit-le}
 use Rattle.model.specs.File.{Tree, Demand, treeOf, demandOf, countOf, mostNodes}
-use Rattle.model.specs.Rules.{isSet}
+use Rattle.model.specs.Rules.{ascends}
 use Rattle.model.specs.Bill.{total}
 use Rattle.model.specs.Ties.{smallerFirst, havingFirst, members, visits, tiesBefore, ranksBefore}
 use Rattle.model.specs.Accepted.{Sound}
+use Rattle.model.proofs.Ascending.{set-ascends}
 use Rattle.placement.proofs.Members.{set-size, cursor-bound, cursor-begins, cursor-turns}
 use Rattle.compare.specs.Counting.{Comparable, VisitedTo}
 
@@ -107,11 +108,11 @@ module _ {file k l counts others : List ℕ} (given : Comparable file k l counts
   sound : Sound t (demandOf file)
   sound = given .countable .given .ofFile .sound
 
-  in-tree : isSet t k ≡ true
-  in-tree = given .countable .given .ofNodes
+  pub in-tree : ascends 0 (t .count) k ≡ true
+  in-tree = set-ascends t k (given .countable .given .ofNodes)
 
-  in-tree-other : isSet t l ≡ true
-  in-tree-other = given .countableOther .given .ofNodes
+  pub in-tree-other : ascends 0 (t .count) l ≡ true
+  in-tree-other = set-ascends t l (given .countableOther .given .ofNodes)
 
   pub visit-begins : VisitedTo file k l 1 0 0
   visit-begins = record {

@@ -39,7 +39,7 @@ pub power-small : (i : ℕ) → i ≤ 4 → 256 ^ i ≤ 2 ^ 32
 power-small i l = omega (arith, pow-le-pow-right {n = 256} (omega arith) l)
 
 -- a field is the number at its place
-pub field-here : (file : List ℕ) (row f : Field) (v value : ℕ) → row ≡ f → value ≡ number (row .width) file (recordAt v + row .offset)
+pub field-here : (file : List ℕ) (row f : Field) (v value : ℕ) → row ≡ f → value ≡ number (row .width) file (recordAt file v + row .offset)
     → value ≡ fieldOf file f v
 unfolding fieldOf
 field-here file row f v value e h = rw e at h

@@ -1,6 +1,6 @@
 -- The table of fields, row by row: each field stands inside its record, and has at most four bytes.
 use mathlib.Core.Path.{_≡_, refl}
-use mathlib.Core.List.{map}
+use mathlib.Core.List.{List, map}
 use Prim.Native.Nat.{ℕ, zero, suc, _+_, _≤_, _<_}
 use native.Mathlib.Omega.{arith}
 use lib.ListN.{getD}
@@ -25,16 +25,17 @@ pub row-here : (f : ℕ) → f < 4 → rowOf (getD (map codeOf fieldTable) f (re
 row-here = by-row (λ f. rowOf (getD (map codeOf fieldTable) f (record { offset = 0; width = 0; most = 0 })) ≡ fieldAt f) refl refl refl refl
 
 -- a field stands inside its record, and has at most four bytes
-pub record Placed (row : Field) : Type 0 where
-  pub inside : row .offset + row .width ≤ recordLength
+pub record Placed (file : List ℕ) (row : Field) : Type 0 where
+  pub inside : row .offset + row .width ≤ recordLength file
   pub narrow : row .width ≤ 4
 
-placed : (f : ℕ) → f < 4 → Placed (fieldAt f)
-placed =
-    by-row (λ f. Placed (fieldAt f)) (record { inside = omega arith; narrow = omega arith })
+placed : (file : List ℕ) (f : ℕ) → f < 4 → Placed file (fieldAt f)
+unfolding recordLength
+placed file =
+    by-row (λ f. Placed file (fieldAt f)) (record { inside = omega arith; narrow = omega arith })
     (record { inside = omega arith; narrow = omega arith }) (record { inside = omega arith; narrow = omega arith })
     (record { inside = omega arith; narrow = omega arith })
 
 -- and so does the row that the code reads
-pub placed-row : (row : code.Field) (f : ℕ) → rowOf row ≡ fieldAt f → f < 4 → Placed (rowOf row)
-placed-row row f e h = rw e (placed f h)
+pub placed-row : (file : List ℕ) (row : code.Field) (f : ℕ) → rowOf row ≡ fieldAt f → f < 4 → Placed file (rowOf row)
+placed-row file row f e h = rw e (placed file f h)

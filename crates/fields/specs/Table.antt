@@ -16,4 +16,4 @@ fieldAt f = getD fieldTable f parentField
 -- the record of node v stands in the file
 pub record InFile (file : List ℕ) (v : ℕ) : Type 0 where
   pub node : v < mostNodes
-  pub long : recordAt v + recordLength ≤ length file
+  pub long : recordAt file v + recordLength file ≤ length file

@@ -4,7 +4,7 @@ ghost use Prim.Native.Nat.{_+_, _*_, _≤_, _<_, _^_};
 ghost use lib.Dec.{leb};
 ghost use lib.ListN.{length};
 ghost use Rattle.model.specs.File.{number, fieldOf, headerLength, versionOf, countOf, budgetOf, treeOf, demandOf};
-ghost use Rattle.model.specs.Bill.{thousandths};
+ghost use Rattle.model.specs.Bill.{whole, cachable};
 ghost use Rattle.fields.specs.Table.{rowOf, fieldAt, InFile};
 
 // What an accepted file says of its tree: n, k and h. The associated constants are the tree file's version, sizes and places.
@@ -173,7 +173,7 @@ pub fn length_of(file: &[u8], v: usize) -> units::Distance
 // All that the client at v asks for.
 pub fn flow_of(file: &[u8], v: usize) -> units::Flow
     requires { ⌜ InFile (now file) v ⌝ }
-    ensures { λ r. ⌜ r .0 ≡ demandOf (now (file .entry)) .flow v * thousandths ⌝ }
+    ensures { λ r. ⌜ r .0 ≡ whole (demandOf (now (file .entry))) v ⌝ }
 {
     units::Flow(field_of(file, Tree::FLOW_FIELD, v) * units::Flow::WHOLE)
 }
@@ -181,7 +181,7 @@ pub fn flow_of(file: &[u8], v: usize) -> units::Flow
 // The part of it that a cache can serve.
 pub fn cachable_of(file: &[u8], v: usize) -> units::Flow
     requires { ⌜ InFile (now file) v ⌝ }
-    ensures { λ r. ⌜ r .0 ≡ demandOf (now (file .entry)) .flow v * demandOf (now (file .entry)) .hit v ⌝ }
+    ensures { λ r. ⌜ r .0 ≡ cachable (demandOf (now (file .entry))) v ⌝ }
 {
     units::Flow(field_of(file, Tree::FLOW_FIELD, v) * field_of(file, Tree::HIT_FIELD, v))
 }

@@ -1,18 +1,19 @@
 -- The empty set: the server serves every client, so the total is each client's whole flow over its distance.
 use mathlib.Core.Path.{_≡_, refl, ap, _∙_}
 use mathlib.Core.List.{List, []}
-use Prim.Native.Nat.{ℕ, suc, _+_, _*_, _-_, _≤_, _<_, _^_}
-use native.Mathlib.Nat.{mul-assoc, zero-add}
+use Prim.Native.Nat.{ℕ, suc, _+_, _*_, _≤_, _<_, _^_}
+use native.Mathlib.Nat.{zero-add}
 use native.Mathlib.Numerals.{add-one}
 use native.Mathlib.Omega.{arith}
 use Rattle.laws.specs.Lists.{range, sum, has}
 use Rattle.laws.proofs.Sums.{sum-snoc, sum-fewer}
 use Rattle.model.specs.File.{Tree, Demand, treeOf, demandOf}
 use Rattle.model.specs.Tree.{distance}
-use Rattle.model.specs.Bill.{thousandths, price, cost, total, serving}
+use Rattle.model.specs.Bill.{whole, cost, total, serving}
 use Rattle.model.specs.Preorder.{Preorder}
 use Rattle.model.specs.Accepted.{Sound}
 use Rattle.model.proofs.Routes.{by-route, distance-server}
+use Rattle.model.proofs.Amounts.{price-amounts}
 use Rattle.model.proofs.Nearest.{serving-server, serving-up, cost-is}
 use Rattle.model.proofs.Bounds.{total-bound}
 use Rattle.node_words.specs.Words.{distanceWord, wordOf}
@@ -30,12 +31,9 @@ pub serving-distance-none : (t : Tree) (d : Demand) → Sound t d → (v : ℕ) 
 unfolding servingDistance
 serving-distance-none t d ok v = ap (distance t) (serving-of-none t (ok .preorder) v) ∙ distance-server t (ok .server)
 
-cost-of-none : (t : Tree) (d : Demand) → Sound t d → (c : ℕ) → d .flow c * thousandths * distance t c ≡ cost t d [] c
-unfolding price
+cost-of-none : (t : Tree) (d : Demand) → Sound t d → (c : ℕ) → whole d c * distance t c ≡ cost t d [] c
 cost-of-none t d ok c =
-    let whole : thousandths * distance t c - d .hit c * 0 ≡ thousandths * distance t c = omega arith in
-    rw (cost-is t (ok .preorder) [] d c, serving-of-none t (ok .preorder) c, distance-server t (ok .server), whole)
-    (mul-assoc (d .flow c) thousandths (distance t c))
+    rw (cost-is t (ok .preorder) [] d c, serving-of-none t (ok .preorder) c, price-amounts d c t 0, distance-server t (ok .server)) (omega arith)
 
 module _ {file : List ℕ} {n : ℕ} {words : List ℕ} (stored : DistancesStored file n words) where
   abbrev costs : ℕ → ℕ
@@ -49,7 +47,7 @@ module _ {file : List ℕ} {n : ℕ} {words : List ℕ} (stored : DistancesStore
   unfolding sum range
   summed-none = (omega arith, refl)
 
-  module _ {v held f x : ℕ} (s : Summed v held) (below : v < n) (ef : f ≡ demandOf file .flow v * thousandths) (ex : x ≡ wordOf words v distanceWord) where
+  module _ {v held f x : ℕ} (s : Summed v held) (below : v < n) (ef : f ≡ whole (demandOf file) v) (ex : x ≡ wordOf words v distanceWord) where
     cost-here : f * x ≡ costs v
     cost-here = rw (ef, ex, stored .distances v below) (cost-of-none (treeOf file) (demandOf file) (room-sound (stored .room)) v)
 
@@ -74,5 +72,5 @@ module _ {file : List ℕ} {n : ℕ} {words : List ℕ} (stored : DistancesStore
   pub summed-all : {v held : ℕ} → Summed v held → n ≤ v → held ≡ total (treeOf file) (demandOf file) []
   unfolding total
   summed-all {v} s h =
-      let whole : v ≡ treeOf file .count = omega (arith, stored .room .count) in
-      s .1 ∙ ap (λ (m : ℕ). sum costs (range 0 m)) whole
+      let all : v ≡ treeOf file .count = omega (arith, stored .room .count) in
+      s .1 ∙ ap (λ (m : ℕ). sum costs (range 0 m)) all

@@ -3,7 +3,6 @@ use mathlib.Core.Path.{_≡_, refl, sym, ap, subst, _∙_}
 use mathlib.Core.Bool.{true, false, cond, _||_}
 use mathlib.Core.List.{List, [], _∷_}
 use Prim.Native.Nat.{ℕ, zero, suc, _+_, _*_, _-_, _≤_, _<_}
-use native.Mathlib.Nat.{mul-le-mul}
 use native.Mathlib.Decide.{ℕ-discrete}
 use native.Mathlib.Omega.{arith}
 use lib.Dec.{eqb}
@@ -12,12 +11,14 @@ use Rattle.laws.specs.Lists.{range, sum, has, those}
 use Rattle.laws.proofs.Bools.{by-test, cond-same}
 use Rattle.laws.proofs.Lists.{range-bounds}
 use Rattle.laws.proofs.Sums.{sum-add, sum-none, sum-swap, sum-same, sum-zero, sum-where, sum-those, sum-le, sum-point}
-use Rattle.model.specs.File.{Tree, Demand, mostFlow, mostHit}
+use Rattle.model.specs.File.{Tree, Demand, mostFlow}
 use Rattle.model.specs.Tree.{nodes, sites}
+use Rattle.model.specs.Bill.{thousandths, cachable}
 use Rattle.model.specs.Preorder.{Preorder}
 use Rattle.model.specs.Accepted.{Sound}
 use Rattle.model.proofs.Routes.{parent-before, by-route}
-use Rattle.greedy.specs.Savings.{cachable, mostReach, reaches, reach, gathered}
+use Rattle.model.proofs.Bounds.{whole-within}
+use Rattle.greedy.specs.Savings.{mostReach, reaches, reach, gathered}
 use Rattle.greedy.proofs.Reaches.{reach-counts, reaches-server, reaches-up, reaches-self, reaches-before}
 
 -- ---- a client that reaches a node is the node's own, or it reaches one of the node's children
@@ -149,9 +150,9 @@ module _ (t : Tree) (d : Demand) (pre : Preorder t) where
 module _ (t : Tree) (d : Demand) (ok : Sound t d) where
   pub reach-bound : (k : List ℕ) (x : ℕ) → reach t d k x ≤ mostReach
   reach-bound k x =
-      let most = mostFlow * mostHit in
+      let most = mostFlow * thousandths in
       let each : (c : ℕ) → cond (reaches t k x c) (cachable d c) 0 ≤ most = λ c. by-test (λ b. cond b (cachable d c) 0 ≤ most) (reaches t k x c)
-      (λ _. mul-le-mul (ok .flow c) (ok .hit c)) (λ _. omega arith) in
+      (λ _. omega (arith, ok .part c, whole-within t d ok c)) (λ _. omega arith) in
       omega (arith, reach-counts t d k x, sum-le (λ c. cond (reaches t k x c) (cachable d c) 0) most 0 (t .count) each, ok .few)
 
   pub gathered-bound : (x i : ℕ) → x < t .count → suc i ≤ t .count → gathered t d (suc i) x ≤ mostReach

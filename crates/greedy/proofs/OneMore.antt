@@ -12,11 +12,12 @@ use Rattle.laws.proofs.Bools.{by-test, both, not-both, cond-same}
 use Rattle.laws.proofs.Sums.{sum-add, sum-same, sum-where}
 use Rattle.model.specs.File.{Tree, Demand}
 use Rattle.model.specs.Tree.{nodes}
+use Rattle.model.specs.Bill.{cachable}
 use Rattle.model.specs.Greedy.{withNode}
 use Rattle.model.specs.Preorder.{Preorder}
 use Rattle.model.proofs.Routes.{parent-before, by-route}
 use Rattle.model.proofs.WithNode.{has-with-node}
-use Rattle.greedy.specs.Savings.{cachable, reaches, servingDistance, reach}
+use Rattle.greedy.specs.Savings.{reaches, servingDistance, reach}
 use Rattle.greedy.proofs.Reaches.{reach-counts, serving-distance-server, serving-distance-up, reaches-server, reaches-up, reaches-self, reaches-before}
 
 module _ (t : Tree) (pre : Preorder t) (k : List ℕ) (x : ℕ) where

@@ -6,10 +6,11 @@ use native.Mathlib.Numerals.{add-one}
 use native.Mathlib.Omega.{arith}
 use lib.ListN.{set}
 use Rattle.model.specs.File.{Tree, Demand, treeOf, demandOf}
+use Rattle.model.specs.Bill.{cachable}
 use Rattle.model.proofs.Routes.{parent-before}
 use Rattle.node_words.specs.Words.{wordAt, distanceWord, wordOf, NodeRoom, SiteRoom}
 use Rattle.node_words.proofs.Words.{room-sound, room-parent}
-use Rattle.greedy.specs.Savings.{cachable, mostReach, servingDistance, gathered}
+use Rattle.greedy.specs.Savings.{mostReach, servingDistance, gathered}
 use Rattle.greedy.specs.Words.{servingDistanceWord, reachWord, markWord, markedSites, servedFrom, Wrote, DistancesStored, PassedFrom, Passes, Gathers}
 use Rattle.greedy.proofs.Reaches.{serving-distance-up}
 use Rattle.greedy.proofs.Gathered.{gathered-none, gathered-parent, gathered-other, gathered-all, gathered-bound}

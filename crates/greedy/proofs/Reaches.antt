@@ -11,13 +11,13 @@ use Rattle.laws.proofs.Bools.{by-test}
 use Rattle.laws.proofs.Sums.{sum-those}
 use Rattle.model.specs.File.{Tree, Demand}
 use Rattle.model.specs.Tree.{nodes, distance}
-use Rattle.model.specs.Bill.{serving}
+use Rattle.model.specs.Bill.{cachable, serving}
 use Rattle.model.specs.Greedy.{withNode}
 use Rattle.model.specs.Preorder.{Preorder}
 use Rattle.model.proofs.Routes.{parent-before, by-route}
 use Rattle.model.proofs.Nearest.{serving-server, serving-up, serving-near}
 use Rattle.model.proofs.WithNode.{has-with-node}
-use Rattle.greedy.specs.Savings.{cachable, reaches, servingDistance, reach}
+use Rattle.greedy.specs.Savings.{reaches, servingDistance, reach}
 
 -- what reaches a node, as a sum over all clients
 pub reach-counts : (t : Tree) (d : Demand) (k : List ℕ) (x : ℕ)

@@ -90,7 +90,7 @@ module _ {file : List ℕ} {n k : ℕ} {s : List ℕ} {sum b site most : ℕ} (s
   -- where no site saves, every later step leaves the total and takes no node
   pub step-rests : most ≡ 0 → (j : ℕ) → b ≤ j → j < k → (0 ≡ getD (greedyNodes t d k) j 0) × (sum ≡ greedyTotal t d (suc j))
   step-rests e j from to =
-      let none = found-none t d k b h (ok .preorder) (ok .hit) found e j from to in
+      let none = found-none t d k b h (ok .preorder) (ok .part) found e j from to in
       (none .0, st .total ∙ sym (none .1))
 
   module _ (saves : 0 < most) where
@@ -98,20 +98,20 @@ module _ {file : List ℕ} {n k : ℕ} {s : List ℕ} {sum b site most : ℕ} (s
     step-free = let here = outside .held saves in record { site = here .0; below = outside .below; outside = here .1 }
 
     pub step-node : site ≡ getD (greedyNodes t d k) b 0
-    step-node = found-node t d k b h (ok .preorder) (ok .hit) found saves
+    step-node = found-node t d k b h (ok .preorder) (ok .part) found saves
 
     pub step-within : most ≤ sum
-    step-within = omega (arith, st .total, found-within t d k b h (ok .preorder) (ok .hit) found saves)
+    step-within = omega (arith, st .total, found-within t d k b h (ok .preorder) (ok .part) found saves)
 
     pub step-total : {left : ℕ} → left ≡ sum - most → left ≡ greedyTotal t d (suc b)
-    step-total e = omega (arith, st .total, found-total t d k b h (ok .preorder) (ok .hit) found saves)
+    step-total e = omega (arith, st .total, found-total t d k b h (ok .preorder) (ok .part) found saves)
 
     pub step-stands : {l : List ℕ} {left : ℕ} → SiteTaken file n site s l → left ≡ sum - most → Standing file n l left (b + 1)
     step-stands done e =
         rw (add-one b)
         (record {
           current = done .current;
-          marks = done .marks ∙ ap (withNode site) (st .marks) ∙ sym (found-set t d k b h (ok .preorder) (ok .hit) found saves);
+          marks = done .marks ∙ ap (withNode site) (st .marks) ∙ sym (found-set t d k b h (ok .preorder) (ok .part) found saves);
           total = step-total e;
         })
 

@@ -3,31 +3,33 @@ use mathlib.Core.Path.{_≡_, ap}
 use mathlib.Core.Bool.{cond}
 use mathlib.Core.List.{List}
 use Prim.Native.Nat.{ℕ, _+_, _*_, _-_, _≤_}
-use native.Mathlib.Nat.{mul-assoc, mul-le-mul}
+use native.Mathlib.Nat.{mul-le-mul}
 use native.Mathlib.Omega.{arith}
 use Rattle.laws.proofs.Numbers.{mul-sub-add}
 use Rattle.laws.proofs.Bools.{by-test}
 use Rattle.laws.proofs.Sums.{sum-add, sum-mul, sum-same}
 use Rattle.model.specs.File.{Tree, Demand}
 use Rattle.model.specs.Tree.{nodes, distance}
-use Rattle.model.specs.Bill.{thousandths, price, cost, total, serving}
+use Rattle.model.specs.Bill.{whole, cachable, price, cost, total, serving}
 use Rattle.model.specs.Greedy.{withNode}
 use Rattle.model.specs.Preorder.{Preorder}
+use Rattle.model.proofs.Amounts.{price-amounts}
 use Rattle.model.proofs.Nearest.{serving-near, cost-is}
-use Rattle.greedy.specs.Savings.{cachable, reaches, servingDistance, saving}
+use Rattle.greedy.specs.Savings.{reaches, servingDistance, saving}
 use Rattle.greedy.proofs.Reaches.{reach-counts, reaches-served, serving-without}
 
-module _ (t : Tree) (d : Demand) (pre : Preorder t) (hits : (c : ℕ) → d .hit c ≤ thousandths) where
+module _ (t : Tree) (d : Demand) (pre : Preorder t) (part : (c : ℕ) → cachable d c ≤ whole d c) where
   -- what the client at c saves where v serves it and not w
   price-saved : (c v w : ℕ) → distance t w ≤ distance t v → distance t v ≤ distance t c
       → price t d c v + cachable d c * (distance t v - distance t w) ≡ price t d c w
-  unfolding price
   price-saved c v w h g =
-      let far = mul-le-mul (hits c) g in
-      let nearer = mul-sub-add (d .hit c) (distance t v) (distance t w) h in
-      let x = d .hit c * (distance t v - distance t w) in
-      let less : thousandths * distance t c - d .hit c * distance t v + x ≡ thousandths * distance t c - d .hit c * distance t w = omega arith in
-      omega (arith, ap (λ y. d .flow c * y) less, mul-assoc (d .flow c) (d .hit c) (distance t v - distance t w))
+      omega (
+        arith,
+        price-amounts d c t v,
+        price-amounts d c t w,
+        mul-le-mul (part c) g,
+        mul-sub-add (cachable d c) (distance t v) (distance t w) h,
+      )
 
   module _ (k : List ℕ) (x : ℕ) where
     -- what it saves with a cache at x

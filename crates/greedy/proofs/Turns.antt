@@ -9,7 +9,7 @@ use lib.Seq.{take-all, take-suc}
 use Rattle.laws.specs.Lists.{has}
 use Rattle.laws.specs.FirstGreatest.{FirstGreatest}
 use Rattle.model.specs.File.{Tree, Demand}
-use Rattle.model.specs.Bill.{thousandths, total}
+use Rattle.model.specs.Bill.{whole, cachable, total}
 use Rattle.model.specs.Greedy.{withNode, withNodes, takenFrom, greedyNodes, greedySet, greedyTotal}
 use Rattle.model.specs.Preorder.{Preorder}
 use Rattle.model.specs.Laws.{Takes, Rests}
@@ -42,8 +42,8 @@ module _ (t : Tree) (d : Demand) where
         elim (decLt b (length g)) [
           | yes l ↦ l
           | no l ↦
-              let whole : withNodes [] g ≡ greedySet t d b = ap (withNodes []) (sym (take-all b g (omega arith))) ∙ sym (set-after b (omega arith)) in
-              absurd (takes-not-rests t d p (rw whole at (greedy-runs t d k .stop (omega arith))))
+              let all : withNodes [] g ≡ greedySet t d b = ap (withNodes []) (sym (take-all b g (omega arith))) ∙ sym (set-after b (omega arith)) in
+              absurd (takes-not-rests t d p (rw all at (greedy-runs t d k .stop (omega arith))))
         ]
 
     step-here : b < length g → Takes t d (greedySet t d b) (getD g b 0)
@@ -69,17 +69,17 @@ module _ (t : Tree) (d : Demand) where
 
     -- ---- by a search
 
-    module _ (pre : Preorder t) (hits : (c : ℕ) → d .hit c ≤ thousandths) {site most : ℕ}
+    module _ (pre : Preorder t) (part : (c : ℕ) → cachable d c ≤ whole d c) {site most : ℕ}
         (found : FirstGreatest (has (greedySet t d b)) (saving t d (greedySet t d b)) (t .count) site most) where
       -- where no site saves
       pub found-none : most ≡ 0 → (j : ℕ) → b ≤ j → j < k → (0 ≡ getD g j 0) × (greedyTotal t d (suc j) ≡ greedyTotal t d b)
       found-none e j from to =
-          let rested = run-rested (search-rests t d pre hits (greedySet t d b) site most found e) j from to in
+          let rested = run-rested (search-rests t d pre part (greedySet t d b) site most found e) j from to in
           (rested .0, ap (total t d) (rested .1))
 
       module _ (saves : 0 < most) where
         takes-found : Takes t d (greedySet t d b) site
-        takes-found = search-takes t d pre hits (greedySet t d b) site most found saves
+        takes-found = search-takes t d pre part (greedySet t d b) site most found saves
 
         pub found-node : site ≡ getD g b 0
         found-node = step-taken takes-found .0
@@ -88,7 +88,7 @@ module _ (t : Tree) (d : Demand) where
         found-set = step-taken takes-found .1
 
         pub found-within : most ≤ greedyTotal t d b
-        found-within = let e = found .held saves .2 in omega (arith, saving-within-total t d pre hits (greedySet t d b) site)
+        found-within = let e = found .held saves .2 in omega (arith, saving-within-total t d pre part (greedySet t d b) site)
 
         pub found-total : greedyTotal t d (suc b) ≡ greedyTotal t d b - most
-        found-total = ap (total t d) found-set ∙ search-total t d pre hits (greedySet t d b) site most found saves
+        found-total = ap (total t d) found-set ∙ search-total t d pre part (greedySet t d b) site most found saves

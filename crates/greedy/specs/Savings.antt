@@ -5,18 +5,14 @@ use mathlib.Core.List.{List, []}
 use Prim.Native.Nat.{ℕ, _+_, _*_, _-_}
 use lib.Dec.{eqb}
 use Rattle.laws.specs.Lists.{range, sum, those}
-use Rattle.model.specs.File.{Tree, Demand, mostNodes, mostFlow, mostHit}
+use Rattle.model.specs.File.{Tree, Demand, mostNodes, mostFlow}
 use Rattle.model.specs.Tree.{nodes, distance}
-use Rattle.model.specs.Bill.{serving}
+use Rattle.model.specs.Bill.{thousandths, cachable, serving}
 use Rattle.model.specs.Greedy.{withNode}
-
--- f × p: the part of the flow of the client at c that a cache serves, in thousandths
-abbrev pub cachable : Demand → ℕ → ℕ
-cachable d c = d .flow c * d .hit c
 
 -- no more than this reaches a node, within the sizes of a tree file
 abbrev pub mostReach : ℕ
-mostReach = mostNodes * (mostFlow * mostHit)
+mostReach = mostNodes * (mostFlow * thousandths)
 
 module _ (t : Tree) where
   -- would a cache at x serve the client at c? So c is at or below x and meets no member of K before x.

@@ -12,12 +12,11 @@ ghost use lib.Dec.{leb};
 ghost use lib.ListN.{length};
 ghost use Rattle.laws.specs.FirstGreatest.{FirstGreatest};
 ghost use Rattle.model.specs.File.{mostBudget, treeOf, demandOf};
-ghost use Rattle.model.specs.Bill.{total};
+ghost use Rattle.model.specs.Bill.{cachable, total};
 ghost use Rattle.model.specs.Calls.{GreedyCall};
 ghost use Rattle.fields.specs.Table.{InFile};
 ghost use Rattle.tree_file.specs.Checks.{verdictOf};
 ghost use Rattle.node_words.specs.Words.{nodeWords, distanceWord, wordOf, HasNode, NodeRoom, SiteRoom};
-ghost use Rattle.greedy.specs.Savings.{cachable};
 ghost use Rattle.greedy.specs.Words.{servingDistanceWord, reachWord, markedSites, savingFrom, servedFrom, Wrote, DistancesStored, Current, Free, ServedTo, Serves, PassedFrom, Passes, Gathers, Relieves, SiteTaken, Weighed, Prepared};
 ghost use Rattle.greedy.specs.Run.{GreedyRoom, Filled, GreedyWritten};
 

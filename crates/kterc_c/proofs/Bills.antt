@@ -7,9 +7,10 @@ use lib.ListN.{length, drop, set}
 use borrow.Author.Tests.{le-leb, lt-leb}
 use Rattle.laws.proofs.Stores.{sets-front}
 use Rattle.model.specs.File.{treeOf, countOf}
-use Rattle.model.specs.Rules.{Verdict, passed, broken, ask, _then_, fileVerdict, ascends, isSet, askSet}
+use Rattle.model.specs.Rules.{Verdict, passed, broken, ask, _then_, fileVerdict, ascends, askSet}
 use Rattle.model.specs.Calls.{answered, refused, after, BillMemory, billVerdict, BillCall}
 use Rattle.model.specs.Hosts.{HostBillMemory, hostBillVerdict, HostBillCall}
+use Rattle.model.proofs.Ascending.{set-told}
 use Rattle.model.proofs.Verdicts.{answered-passed, refused-broken}
 
 -- a verdict that ends in a refusal is one
@@ -26,7 +27,7 @@ module _ (file k : List ℕ) (rest : Verdict) where
 
   pub set-asked : {n : ℕ} {b : Bool} → passed ≡ fileVerdict file → n ≡ countOf file → ascends 0 n k ≡ b
       → (ask 12 0 b then rest) ≡ (fileVerdict file then askSet file k then rest)
-  set-asked ok nodes asked = let here : isSet (treeOf file) k ≡ _ = rw nodes at asked in rw (← ok, here)
+  set-asked ok nodes asked = rw (← ok, set-told (treeOf file) k nodes asked)
 
 -- ---- the call
 

@@ -1,6 +1,6 @@
 -- Rules 13 and 14 after rules 1 to 11.
 use mathlib.Core.Path.{_≡_, refl, sym, ap, ap₂, _∙_}
-use mathlib.Core.Bool.{Bool, false, _&&_}
+use mathlib.Core.Bool.{Bool, true, false, _&&_}
 use mathlib.Core.List.{List}
 use Prim.Native.Nat.{ℕ, suc, _+_, _*_, _≤_, _<_}
 use native.Mathlib.Nat.{mul-le-mul}
@@ -17,7 +17,7 @@ use Rattle.model.proofs.Accepted.{accepted-header, accepted-sound}
 use Rattle.model.proofs.Bounds.{height-bound}
 use Rattle.fields.specs.declared.Tree as code
 use Rattle.tree_file.specs.Checks.{sizesOf}
-use Rattle.lent.specs.Lent.{SizesHold, lentVerdict}
+use Rattle.lent.specs.Lent.{AcceptedSizes, lentVerdict}
 
 -- ---- rule 13
 
@@ -30,45 +30,47 @@ words-grow {h = h} {k = k} {h′ = h′} {k′ = k′} few low small =
     let lines = mul-le-mul few tall in
     (lines, mul-le-mul lines wide)
 
--- the product stays small
-pub words-fit : {sizes : code.Tree} → SizesHold sizes
-    → (sizes .nodes * (sizes .height + 1) ≤ mostNodes * (mostDepth + 1))
-    × (sizes .nodes * (sizes .height + 1) * (sizes .budget + 1) ≤ mostNodes * (mostDepth + 1) * (mostBudget + 1))
-words-fit hold = words-grow (hold .nodes) (hold .height) (hold .budget)
+-- n, k and h of an accepted file are small
+pub record SizesHold (sizes : code.Tree) : Type 0 where
+  pub nodes : sizes .nodes ≤ mostNodes
+  pub budget : sizes .budget ≤ mostBudget
+  pub height : sizes .height ≤ mostDepth
 
-module _ (file : List ℕ) where
-  accepted-sizes : fileVerdict file ≡ passed → SizesHold (sizesOf file)
-  accepted-sizes ok =
-      let head = accepted-header file ok in
-      record {
+module _ {file : List ℕ} {sizes : code.Tree} (of : AcceptedSizes file sizes) where
+  pub sizes-hold : SizesHold sizes
+  sizes-hold =
+      let head = accepted-header file (of .accepted) in
+      rw (of .of-file) (record {
         nodes = head .few;
         budget = head .budget;
-        height = height-bound (treeOf file) (demandOf file) (accepted-sound file ok);
-      }
+        height = height-bound (treeOf file) (demandOf file) (accepted-sound file (of .accepted));
+      })
 
-  pub answered-sizes : {sizes : code.Tree} → answered sizes ≡ answer (fileVerdict file) (sizesOf file) → SizesHold sizes
-  answered-sizes e = let told = answered-passed (fileVerdict file) (sizesOf file) e in rw (told .1) (accepted-sizes (told .0))
+  -- and so is what is asked for them
+  pub words-fit : (sizes .nodes * (sizes .height + 1) ≤ mostNodes * (mostDepth + 1))
+      × (sizes .nodes * (sizes .height + 1) * (sizes .budget + 1) ≤ mostNodes * (mostDepth + 1) * (mostBudget + 1))
+  words-fit = words-grow (sizes-hold .nodes) (sizes-hold .height) (sizes-hold .budget)
 
-  module _ (sizes : code.Tree) (asked : ℕ) (e : answered sizes ≡ answer (fileVerdict file) (sizesOf file))
-      (a : asked ≡ sizes .nodes * (sizes .height + 1) * (sizes .budget + 1) + 4 * sizes .nodes) where
-    asked-words : asked ≡ scratchWords file
-    unfolding scratchWords
-    asked-words = rw (answered-passed (fileVerdict file) (sizesOf file) e .1) at a
+  pub words-are : {r : ℕ} → r ≡ sizes .nodes * (sizes .height + 1) * (sizes .budget + 1) + 4 * sizes .nodes → r ≡ scratchWords file
+  unfolding scratchWords
+  words-are h = rw (of .of-file) at h
 
-    pub words-of-accepted : asked ≡ wordsAsked file
+module _ (file : List ℕ) where
+  pub answered-sizes : {sizes : code.Tree} → answered sizes ≡ answer (fileVerdict file) (sizesOf file) → AcceptedSizes file sizes
+  answered-sizes e = let told = answered-passed (fileVerdict file) (sizesOf file) e in record { accepted = told .0; of-file = told .1 }
+
+  module _ {sizes : code.Tree} (e : answered sizes ≡ answer (fileVerdict file) (sizesOf file)) where
+    pub words-of-accepted : {asked : ℕ} → asked ≡ scratchWords file → asked ≡ wordsAsked file
     unfolding wordsAsked accepted
-    words-of-accepted = rw (answered-passed (fileVerdict file) (sizesOf file) e .0) asked-words
+    words-of-accepted h = rw (answered-sizes e .accepted) h
 
-    pub scratch-held : (words : ℕ) → asked ≤ words → answered sizes ≡ answer (lentVerdict file words) (sizesOf file)
+    pub scratch-held : (words : ℕ) → leb (scratchWords file) words ≡ true → answered sizes ≡ answer (lentVerdict file words) (sizesOf file)
     unfolding lentVerdict
-    scratch-held words h =
-        let told = answered-passed (fileVerdict file) (sizesOf file) e in
-        rw (told .0, le-leb (scratchWords file) words (omega (arith, asked-words)), told .1)
+    scratch-held words h = let of = answered-sizes e in rw (of .accepted, h, of .of-file)
 
-    pub scratch-short : (words : ℕ) → words < asked → refused 13 0 ≡ answer (lentVerdict file words) (sizesOf file)
+    pub scratch-short : (words : ℕ) → leb (scratchWords file) words ≡ false → refused 13 0 ≡ answer (lentVerdict file words) (sizesOf file)
     unfolding lentVerdict
-    scratch-short words h =
-        rw (answered-passed (fileVerdict file) (sizesOf file) e .0, lt-leb (scratchWords file) words (omega (arith, asked-words)))
+    scratch-short words h = rw (answered-sizes e .accepted, h)
 
   pub scratch-unasked : (words q i : ℕ) → refused q i ≡ answer (fileVerdict file) (sizesOf file)
       → refused q i ≡ answer (lentVerdict file words) (sizesOf file)
@@ -94,7 +96,7 @@ module _ (file : List ℕ) where
       (ok .0, ok .1, told .1)
 
   pub lent-sizes : (words : ℕ) {sizes : code.Tree} → answered sizes ≡ answer (lentVerdict file words) (sizesOf file) → SizesHold sizes
-  lent-sizes words e = let told = lent-told e in rw (told .2) (accepted-sizes (told .0))
+  lent-sizes words e = let told = lent-told e in sizes-hold (record { accepted = told .0; of-file = told .2 })
 
 -- ---- rule 14
 

@@ -1,16 +1,16 @@
 -- The questions that every call with lent scratch asks before the one about its buffers.
+use mathlib.Core.Path.{_≡_}
 use mathlib.Core.List.{List}
-use Prim.Native.Nat.{ℕ, _≤_}
+use Prim.Native.Nat.{ℕ}
 use lib.Dec.{leb}
-use Rattle.model.specs.File.{mostNodes, mostBudget, mostDepth}
-use Rattle.model.specs.Rules.{Verdict, ask, _then_, fileVerdict, scratchWords}
+use Rattle.model.specs.Rules.{Verdict, passed, ask, _then_, fileVerdict, scratchWords}
 use Rattle.fields.specs.declared.Tree as code
+use Rattle.tree_file.specs.Checks.{sizesOf}
 
--- the sizes of an accepted file
-pub record SizesHold (sizes : code.Tree) : Type 0 where
-  pub nodes : sizes .nodes ≤ mostNodes
-  pub budget : sizes .budget ≤ mostBudget
-  pub height : sizes .height ≤ mostDepth
+-- n, k and h of an accepted file
+pub record AcceptedSizes (file : List ℕ) (sizes : code.Tree) : Type 0 where
+  pub accepted : fileVerdict file ≡ passed
+  pub of-file : sizes ≡ sizesOf file
 
 -- rules 1 to 11, then rule 13 of a scratch of so many words
 unfoldable pub lentVerdict : List ℕ → ℕ → Verdict

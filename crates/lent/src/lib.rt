@@ -1,18 +1,27 @@
 // What every call with lent scratch asks first: rules 1 to 11 of the file, then rule 13 of the scratch.
 use tree_file::Checked;
 ghost use mathlib.Core.Path.{_≡_};
-ghost use Prim.Native.Nat.{_+_, _*_};
+ghost use lib.Dec.{leb};
+ghost use Rattle.model.specs.Rules.{scratchWords};
 ghost use Rattle.model.specs.Calls.{answer};
 ghost use Rattle.model.specs.Hosts.{wordsAsked};
 ghost use Rattle.tree_file.specs.Checks.{answerOf, sizesOf};
-ghost use Rattle.lent.specs.Lent.{SizesHold, lentVerdict};
+ghost use Rattle.lent.specs.Lent.{AcceptedSizes, lentVerdict};
 
-// n × (h + 1) × (k + 1) + 4 × n.
-fn scratch_words(tree: fields::Tree) -> usize
-    requires { ⌜ SizesHold tree ⌝ }
-    ensures { λ r. ⌜ r ≡ tree .nodes * (tree .height + 1) * (tree .budget + 1) + 4 * tree .nodes ⌝ }
+// The words that rule 13 asks of an accepted file: n × (h + 1) × (k + 1) + 4 × n.
+fn scratch_words(file: &[u8], tree: fields::Tree) -> usize
+    requires { ⌜ AcceptedSizes (now file) tree ⌝ }
+    ensures { λ r. ⌜ r ≡ scratchWords (now (file .entry)) ⌝ }
 {
     tree.nodes * (tree.height + 1) * (tree.budget + 1) + 4 * tree.nodes
+}
+
+// Has a scratch of `words` words enough of them for an accepted file? That is rule 13.
+pub fn enough(file: &[u8], tree: fields::Tree, words: usize) -> bool
+    requires { ⌜ AcceptedSizes (now file) tree ⌝ }
+    ensures { λ r. ⌜ r ≡ leb (scratchWords (now (file .entry))) words ⌝ }
+{
+    scratch_words(file, tree) <= words
 }
 
 // Rules 1 to 11, then rule 13 of a scratch of `words` words; n, k and h where they hold.
@@ -22,7 +31,7 @@ pub fn check(file: &[u8], words: usize) -> Checked
     let checked = tree_file::check(file);
     match checked {
         Checked::Accepted(tree) => {
-            if words < scratch_words(tree) {
+            if !enough(file, tree, words) {
                 return Checked::Refused(13, 0);
             }
             Checked::Accepted(tree)
@@ -37,7 +46,7 @@ pub fn words_asked(file: &[u8]) -> usize
 {
     let checked = tree_file::check(file);
     match checked {
-        Checked::Accepted(tree) => scratch_words(tree),
+        Checked::Accepted(tree) => scratch_words(file, tree),
         Checked::Refused(_, _) => 0,
     }
 }

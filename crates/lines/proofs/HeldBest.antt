@@ -9,9 +9,9 @@ use Rattle.laws.specs.Lists.{range, bit}
 use Rattle.laws.proofs.Lists.{length-of-range}
 use Rattle.laws.proofs.FrontValues.{same-on-range, entry-of-range-alone}
 use Rattle.model.specs.File.{mostNodes}
-use Rattle.best_rows.specs.Least.{better, firstLeast}
+use Rattle.best_rows.specs.Least.{better}
 use Rattle.best_rows.specs.Rows.{Site, empty}
-use Rattle.best_rows.specs.Best.{cap, costIf, ownChoice, nodeBest, split, rowBest, best}
+use Rattle.best_rows.specs.Best.{cap, costIf, ownChoice, nodeBest, split, later, rowBest, best}
 use Rattle.best_rows.specs.BestAt.{prefer}
 use Rattle.lines.specs.Line.{Line, LineParts, RowBounds, lineCostIf, lineTakes, lineNode, lineSplit, lineLater, lineBest, emptyBest, LinesHoldBest}
 use Rattle.lines.proofs.First.{first-least-same}
@@ -50,32 +50,32 @@ module _ (w : ℕ) (pay : Bool → ℕ) (children : Bool → ℕ → ℕ) (sibli
   held-cost-if n h true = rw (held .cached-is, entry-of-range-alone (children true) w (n - 1) (omega arith))
   held-cost-if n h false = rw (held .uncached-is, entry-of-range-alone (children false) w (n - 0) (omega arith))
 
-  pub held-takes : (n : ℕ) → n < w → lineTakes cached uncached (pay true) (pay false) n ≡ ownChoice bit prefer pay children n
+  pub held-takes : (n : ℕ) → n < w → lineTakes cached uncached (pay true) (pay false) n ≡ ownChoice prefer (costIf bit pay children) n
   unfolding lineTakes ownChoice better
   held-takes n h = rw (held-cost-if n h true, held-cost-if n h false)
 
-  pub held-node : (n : ℕ) → n < w → lineNode cached uncached (pay true) (pay false) n ≡ nodeBest bit prefer pay children n
+  pub held-node : (n : ℕ) → n < w → lineNode cached uncached (pay true) (pay false) n ≡ nodeBest prefer (costIf bit pay children) n
   unfolding lineNode lineTakes nodeBest
-  held-node n h = rw (held-takes n h) (held-cost-if n h (ownChoice bit prefer pay children n))
+  held-node n h = rw (held-takes n h) (held-cost-if n h (ownChoice prefer (costIf bit pay children) n))
 
   held-split : (m : ℕ) → m < w → (r : ℕ) → r ≤ m
-      → lineSplit cached uncached rest (pay true) (pay false) m r ≡ split bit prefer pay children siblings m r
-  unfolding split lineNode
+      → lineSplit cached uncached rest (pay true) (pay false) m r ≡ split (nodeBest prefer (costIf bit pay children)) siblings m r
+  unfolding split
   held-split m h r k =
       rw (held-node (m - r) (omega arith), held .rest-is, entry-of-range-alone siblings w r (omega arith))
 
   pub held-later : (m : ℕ) → m < w
-      → lineLater cached uncached rest (pay true) (pay false) m ≡ firstLeast (split bit prefer pay children siblings m) m
+      → lineLater cached uncached rest (pay true) (pay false) m ≡ later (nodeBest prefer (costIf bit pay children)) siblings m
   unfolding lineLater
   held-later m h = first-least-same _ _ m (held-split m h) .0
 
   pub held-best : (m : ℕ) → m < w
-      → lineBest cached uncached rest (pay true) (pay false) m ≡ rowBest bit prefer pay children siblings m
+      → lineBest cached uncached rest (pay true) (pay false) m ≡ rowBest (nodeBest prefer (costIf bit pay children)) siblings m
   unfolding lineBest rowBest
   held-best m h = rw (first-least-same _ _ m (held-split m h) .1)
 
   pub held-line : map (lineBest cached uncached rest (pay true) (pay false)) (range 0 w)
-      ≡ map (rowBest bit prefer pay children siblings) (range 0 w)
+      ≡ map (rowBest (nodeBest prefer (costIf bit pay children)) siblings) (range 0 w)
   held-line = same-on-range _ _ 0 w (λ m _ h. held-best m (omega arith))
 
 -- the empty row's line

@@ -7,8 +7,8 @@ use Prim.Native.Nat.{ℕ, zero, suc, _+_, _-_, _≤_, _<_, _^_, min}
 use lib.ListN.{length, getD}
 use Rattle.laws.specs.Lists.{range, bit}
 use Rattle.model.specs.File.{mostBudget, mostNodes}
-use Rattle.best_rows.specs.Least.{firstLeast, runningMin}
-use Rattle.best_rows.specs.Best.{cap, costIf, ownChoice, nodeBest, split, rowBest}
+use Rattle.best_rows.specs.Least.{runningMin}
+use Rattle.best_rows.specs.Best.{cap, costIf, ownChoice, nodeBest, split, later, rowBest}
 use Rattle.best_rows.specs.BestAt.{prefer}
 
 -- the most entries that a line has: counts from 0 to the largest budget
@@ -47,11 +47,11 @@ module _ (cached uncached : List ℕ) (member other : ℕ) where
 
   -- is the node one of these n caches?
   unfoldable pub lineTakes : ℕ → Bool
-  lineTakes = ownChoice bit prefer (pay member other) (children cached uncached)
+  lineTakes = ownChoice prefer lineCostIf
 
   -- the least cost of the node and its children with n caches
   unfoldable pub lineNode : ℕ → ℕ
-  lineNode = nodeBest bit prefer (pay member other) (children cached uncached)
+  lineNode = nodeBest prefer lineCostIf
 
 -- ---- a row that begins with this node, `rest` being the line of its later siblings
 
@@ -62,15 +62,15 @@ pub record LineParts (w : ℕ) (cached uncached rest : List ℕ) (member other :
 module _ (cached uncached rest : List ℕ) (member other : ℕ) where
   -- the cost of the row with m caches, of which r are among the later siblings
   abbrev pub lineSplit : ℕ → ℕ → ℕ
-  lineSplit = split bit prefer (pay member other) (children cached uncached) (λ r. getD rest r 0)
+  lineSplit = split (lineNode cached uncached member other) (λ r. getD rest r 0)
 
   -- how many of the m caches are among the later siblings
   unfoldable pub lineLater : ℕ → ℕ
-  lineLater m = firstLeast (lineSplit m) m
+  lineLater = later (lineNode cached uncached member other) (λ r. getD rest r 0)
 
   -- the least cost of the row with m caches
   unfoldable pub lineBest : ℕ → ℕ
-  lineBest = rowBest bit prefer (pay member other) (children cached uncached) (λ r. getD rest r 0)
+  lineBest = rowBest (lineNode cached uncached member other) (λ r. getD rest r 0)
 
 -- the row can have m caches, and of these no more than `most` at or below its first node
 pub record SplitBound (cached uncached rest : List ℕ) (member other m most : ℕ) : Type 0 where

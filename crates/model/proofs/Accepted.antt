@@ -3,6 +3,7 @@ use mathlib.Core.Path.{_≡_, refl, ap, _∙_}
 use mathlib.Core.Bool.{_&&_}
 use mathlib.Core.List.{List}
 use Prim.Native.Nat.{ℕ, zero, suc, _+_, _≤_, _<_}
+use native.Mathlib.Nat.{mul-le-mul-left}
 use native.Mathlib.Decide.{decLt}
 use native.Mathlib.Omega.{arith}
 use lib.Dec.{leb, eqb}
@@ -10,13 +11,14 @@ use lib.ListN.{length, List·getD-eq-default}
 use borrow.Author.Tests.{leb-true, eqb-true}
 use Rattle.laws.specs.Lists.{same}
 use Rattle.laws.proofs.Bools.{both}
-use Rattle.model.specs.File.{Tree, Demand, Field, number, fieldOf, treeOf, demandOf, version, headerLength, versionOf, countOf, budgetOf, recordAt, mostNodes, mostBudget, mostDepth, mostLength, mostFlow, mostHit, parentField, lengthField, flowField, hitField}
+use Rattle.model.specs.File.{Field, number, fieldOf, treeOf, demandOf, version, headerLength, versionOf, countOf, budgetOf, recordLength, recordAt, mostNodes, mostBudget, mostDepth, mostLength, mostFlow, mostHit, parentField, lengthField, flowField, hitField}
 use Rattle.model.specs.Tree.{depth}
 use Rattle.model.specs.Rules.{passed, ask, parentHolds, lengthHolds, recordVerdict, recordsVerdict, marked, fileVerdict}
 use Rattle.model.specs.Preorder.{Preorder}
 use Rattle.model.specs.Accepted.{HeaderHolds, RecordHolds, Sound}
 use Rattle.model.proofs.Verdicts.{ask-passed, then-passed}
 use Rattle.model.proofs.Routes.{route-server, route-ends, route-up}
+use Rattle.model.proofs.Amounts.{cachable-part}
 
 -- ---- the header
 
@@ -28,32 +30,34 @@ accepted-header s e =
     let e3 = then-passed (ask 3 0 (eqb (versionOf s) version)) _ (e2 .1) in
     let e4 = then-passed (ask 4 0 (leb 1 (countOf s) && leb (countOf s) mostNodes)) _ (e3 .1) in
     let e5 = then-passed (ask 5 0 (leb (budgetOf s) mostBudget)) _ (e4 .1) in
-    let e6 = then-passed (ask 6 0 (eqb (length s) (recordAt (countOf s)))) _ (e5 .1) in
+    let e6 = then-passed (ask 6 0 (eqb (length s) (recordAt s (countOf s)))) _ (e5 .1) in
     let n = both (leb 1 (countOf s)) (leb (countOf s) mostNodes) (ask-passed 4 0 _ (e4 .0)) in
     record {
       some = leb-true 1 (countOf s) (n .0);
       few = leb-true (countOf s) mostNodes (n .1);
       budget = leb-true (budgetOf s) mostBudget (ask-passed 5 0 _ (e5 .0));
-      exact = eqb-true (length s) (recordAt (countOf s)) (ask-passed 6 0 _ (e6 .0));
+      exact = eqb-true (length s) (recordAt s (countOf s)) (ask-passed 6 0 _ (e6 .0));
       records = e6 .1;
     }
 
 -- ---- the records
 
 -- rules 7 to 11 hold of every record
-each-record : (t : Tree) (d : Demand) (n i : ℕ) → recordsVerdict t d n ≡ passed → i < n → recordVerdict t d i ≡ passed
+each-record : (s : List ℕ) (n i : ℕ) → recordsVerdict s n ≡ passed → i < n → recordVerdict s i ≡ passed
 unfolding recordsVerdict
-each-record t d zero i e h = absurd (omega arith)
-each-record t d (suc n) i e h =
-    let p = then-passed (recordsVerdict t d n) (recordVerdict t d n) e in
+each-record s zero i e h = absurd (omega arith)
+each-record s (suc n) i e h =
+    let p = then-passed (recordsVerdict s n) (recordVerdict s n) e in
     elim (decLt i n) [
-      | yes l ↦ each-record t d n i (p .0) l
-      | no l ↦ let same : i ≡ n = omega arith in ap (recordVerdict t d) same ∙ p .1
+      | yes l ↦ each-record s n i (p .0) l
+      | no l ↦ let same : i ≡ n = omega arith in ap (recordVerdict s) same ∙ p .1
     ]
 
-pub record-holds : (t : Tree) (d : Demand) (i : ℕ) → recordVerdict t d i ≡ passed → RecordHolds t d i
+pub record-holds : (s : List ℕ) (i : ℕ) → recordVerdict s i ≡ passed → RecordHolds s i
 unfolding recordVerdict
-record-holds t d i e =
+record-holds s i e =
+    let t = treeOf s in
+    let d = demandOf s in
     let e7 = then-passed (ask 7 i (parentHolds t i)) _ e in
     let e8 = then-passed (ask 8 i (leb (depth t i) mostDepth)) _ (e7 .1) in
     let e9 = then-passed (ask 9 i (lengthHolds t i)) _ (e8 .1) in
@@ -66,16 +70,22 @@ record-holds t d i e =
       hit = leb-true (d .hit i) mostHit (ask-passed 11 i _ (e10 .1));
     }
 
--- ---- past the last record every field reads as 0
+-- ---- where records stand
+
+-- a record ends before a later one begins
+pub record-before : (s : List ℕ) {i j : ℕ} → i < j → recordAt s i + recordLength s ≤ recordAt s j
+record-before s h = omega (arith, mul-le-mul-left (recordLength s) h)
+
+-- past the last one every field reads as 0
 
 number-past : (w : ℕ) (s : List ℕ) (at : ℕ) → length s ≤ at → number w s at ≡ 0
 unfolding number
 number-past zero s at h = refl
 number-past (suc w) s at h = omega (arith, number-past w s at h, List·getD-eq-default s 0 {n = at + w} (omega arith))
 
-field-past : (s : List ℕ) (f : Field) (i : ℕ) → length s ≡ recordAt (countOf s) → countOf s ≤ i → fieldOf s f i ≡ 0
+field-past : (s : List ℕ) (f : Field) (i : ℕ) → length s ≡ recordAt s (countOf s) → countOf s ≤ i → fieldOf s f i ≡ 0
 unfolding fieldOf
-field-past s f i e h = number-past (f .width) s (recordAt i + f .offset) (omega arith)
+field-past s f i e h = number-past (f .width) s (recordAt s i + f .offset) (omega (arith, mul-le-mul-left (recordLength s) h))
 
 -- ---- the whole file
 
@@ -83,8 +93,8 @@ module _ (s : List ℕ) (ok : fileVerdict s ≡ passed) where
   head : HeaderHolds s
   head = accepted-header s ok
 
-  in-file : (i : ℕ) → i < countOf s → RecordHolds (treeOf s) (demandOf s) i
-  in-file i h = record-holds (treeOf s) (demandOf s) i (each-record (treeOf s) (demandOf s) (countOf s) i (head .records) h)
+  in-file : (i : ℕ) → i < countOf s → RecordHolds s i
+  in-file i h = record-holds s i (each-record s (countOf s) i (head .records) h)
 
   past : (f : Field) (i : ℕ) → countOf s ≤ i → fieldOf s f i ≡ 0
   past f i h = field-past s f i (head .exact) h
@@ -118,6 +128,9 @@ module _ (s : List ℕ) (ok : fileVerdict s ≡ passed) where
   past-depth zero h = absurd (omega (arith, head .some))
   past-depth (suc v) h = rw (route-up (treeOf s) preorder v, past parentField (suc v) h, route-server (treeOf s)) (omega arith)
 
+  pub hit-bound : (v : ℕ) → demandOf s .hit v ≤ mostHit
+  hit-bound = at-most hitField mostHit (λ v h. in-file v h .hit)
+
   pub accepted-sound : Sound (treeOf s) (demandOf s)
   accepted-sound = record {
     some = head .some;
@@ -127,5 +140,5 @@ module _ (s : List ℕ) (ok : fileVerdict s ≡ passed) where
     shallow = everywhere (λ v. depth (treeOf s) v ≤ mostDepth) (λ v h. in-file v h .shallow) past-depth;
     short = at-most lengthField mostLength short-link;
     flow = at-most flowField mostFlow (λ v h. in-file v h .flow);
-    hit = at-most hitField mostHit (λ v h. in-file v h .hit);
+    part = λ v. cachable-part (demandOf s) v (hit-bound v);
   }

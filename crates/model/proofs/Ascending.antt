@@ -1,4 +1,4 @@
--- Laws of ascending lists: how they are made, their members, and that the members tell the list.
+-- Laws of ascending lists: how they are made, their members, and that the members tell the list; and of sets.
 use mathlib.Core.Path.{_≡_, refl, sym, _∙_}
 use mathlib.Core.Bool.{Bool, true, cond, _&&_}
 use mathlib.Core.List.{List, [], _∷_, cons-eq-cons}
@@ -11,7 +11,8 @@ use borrow.Author.Tests.{ltb-true, lt-ltb}
 use Rattle.laws.specs.Lists.{range, has, those}
 use Rattle.laws.proofs.Bools.{by-test, both}
 use Rattle.laws.proofs.Lists.{has-cases, has-none, has-head, has-other}
-use Rattle.model.specs.Rules.{ascends}
+use Rattle.model.specs.File.{Tree}
+use Rattle.model.specs.Rules.{ascends, isSet}
 
 -- lists that ascend from above a on, each below n
 module _ (n : ℕ) where
@@ -92,3 +93,21 @@ module _ (n : ℕ) where
         same-members u k l (p .2) (rw e (q .2))
             (λ w i j. sym (has-other u w k (omega arith)) ∙ s w (omega arith) j ∙ has-other v w l (omega arith)),
       )
+
+-- ---- sets
+
+module _ (t : Tree) (k : List ℕ) where
+  pub set-is : isSet t k ≡ ascends 0 (t .count) k
+  unfolding isSet
+  set-is = refl
+
+  pub set-ascends : isSet t k ≡ true → ascends 0 (t .count) k ≡ true
+  set-ascends h = rw set-is at h
+
+  -- as it is told by n and an answer
+  pub set-told : {n : ℕ} {b : Bool} → n ≡ t .count → ascends 0 n k ≡ b → isSet t k ≡ b
+  set-told e h = set-is ∙ (rw e at h)
+
+pub empty-is-set : (t : Tree) → isSet t [] ≡ true
+unfolding ascends
+empty-is-set t = set-is t []

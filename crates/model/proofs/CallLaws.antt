@@ -12,7 +12,7 @@ use lib.Seq.{getD-drop}
 use borrow.Author.Tests.{leb-true, le-leb, ltb-true}
 use Rattle.laws.proofs.Bools.{both}
 use Rattle.model.specs.File.{Tree, Demand, treeOf, demandOf}
-use Rattle.model.specs.Rules.{Verdict, longEnough, scratchWords}
+use Rattle.model.specs.Rules.{Verdict, longEnough}
 use Rattle.model.specs.Bill.{total, linkTotal}
 use Rattle.model.specs.Ties.{ranksBefore}
 use Rattle.model.specs.Plan.{plan, planTotal}
@@ -132,8 +132,8 @@ calls-lawful file =
       greedyFits = λ totals nodes. both-fit totals nodes (length-greedy-totals file) (length-greedy-row file);
       demandMet = λ memory memory′ c. c .demandThree refl;
       reportFits = λ memory. (both (planBuffersLong file (memory .planTotals) (memory .planRows)) (greedyBuffersLong file (memory .greedyTotals) (memory .greedyNodes)), λ h. rw (h .0, h .1));
-      scratchStays = λ old new h. (h .0, same-from (scratchWords file) old new (h .1));
-      scratchKept = λ q i old new h. h;
+      scratchStays = λ words old new h. (h .0, same-from words old new (h .1));
+      scratchKept = λ words q i old new h. h;
       demandSettles = λ memory h b l. only-optimum (treeOf file) (demandOf file) b _ _ _ (h b l);
       decimalsRead = decimal-reads;
     }

@@ -15,10 +15,11 @@ use Rattle.laws.proofs.Sums.{sum-add, sum-none, sum-swap, sum-same, sum-those, 
 use Rattle.laws.proofs.Ranges.{those-inside}
 use Rattle.model.specs.File.{Tree, Demand}
 use Rattle.model.specs.Tree.{nodes, sites, route, atOrBelow}
-use Rattle.model.specs.Bill.{thousandths, upTo, clientLoad, linkLoad}
+use Rattle.model.specs.Bill.{whole, upTo, clientLoad, linkLoad}
 use Rattle.model.specs.Preorder.{Preorder}
 use Rattle.model.specs.Children.{childOf, relieved}
 use Rattle.model.proofs.Routes.{route-server, parent-before, route-up, by-route, route-before}
+use Rattle.model.proofs.Amounts.{load-amounts}
 use Rattle.model.proofs.Intervals.{below-self, parent-earlier, below-parent, none-from}
 use Rattle.model.proofs.Loads.{sent, bears, bears-up, bears-here, link-load-is}
 
@@ -49,11 +50,11 @@ module _ (t : Tree) (d : Demand) (k : List ℕ) where
 
   -- a cache relieves the link above it of every client at or below it
   pub load-above-member : (v : ℕ) → 1 ≤ v → has k v ≡ true → linkLoad t d k v ≡ sum (relieved d) (those (atOrBelow t v) (nodes t))
-  unfolding clientLoad atOrBelow
+  unfolding atOrBelow
   load-above-member v z h =
       load-by-clients v z
       ∙ sum-same (clientLoad t d k v) (relieved d) (those (atOrBelow t v) (nodes t))
-      (λ c m. rw (met-at-member v (route t c) h (both (atOrBelow t v c) (has (nodes t) c) (sym (has-those (atOrBelow t v) c (nodes t)) ∙ m) .0)))
+      (λ c m. rw (load-amounts d c t k v, met-at-member v (route t c) h (both (atOrBelow t v c) (has (nodes t) c) (sym (has-those (atOrBelow t v) c (nodes t)) ∙ m) .0)))
 
   -- ---- above another node
 
@@ -117,10 +118,10 @@ module _ (t : Tree) (d : Demand) (k : List ℕ) where
       by-children = by-route t pre ByChildren by-children-server by-children-up
 
     -- the clients' own flows, and each child's load
-    own-flow : v < t .count → sum (λ c. cond (eqb c v) (sent t d pre k c false) 0) (nodes t) ≡ d .flow v * thousandths
+    own-flow : v < t .count → sum (λ c. cond (eqb c v) (sent t d pre k c false) 0) (nodes t) ≡ whole d v
     unfolding sent
     own-flow h =
-        sum-point _ (λ _. 0) v (d .flow v * thousandths) 0 (t .count) (rw (eq-eqb v v refl) (omega arith)) (λ c n. rw (ne-eqb c v n)) (omega arith) (omega arith)
+        sum-point _ (λ _. 0) v (whole d v) 0 (t .count) (rw (eq-eqb v v refl) (omega arith)) (λ c n. rw (ne-eqb c v n)) (omega arith) (omega arith)
         ∙ omega (arith, sum-none (nodes t))
 
     child-load : (m u : ℕ) → 1 ≤ u → sum (λ c. child-bears c m false c u) (nodes t) ≡ cond (childOf t v u) (linkLoad t d k u) 0
@@ -130,7 +131,7 @@ module _ (t : Tree) (d : Demand) (k : List ℕ) where
         (λ _. sym (link-load-is t d pre k u h)) (λ _. sum-none (nodes t))
 
     -- the link above a node without a cache carries its own flow and the loads above its children
-    pub load-above-other : v < t .count → linkLoad t d k v ≡ d .flow v * thousandths + sum (linkLoad t d k) (those (childOf t v) (sites t))
+    pub load-above-other : v < t .count → linkLoad t d k v ≡ whole d v + sum (linkLoad t d k) (those (childOf t v) (sites t))
     load-above-other h =
         let m = t .count - 1 in
         let own : ℕ → ℕ = λ c. cond (eqb c v) (sent t d pre k c false) 0 in

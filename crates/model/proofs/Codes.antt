@@ -7,7 +7,6 @@ use native.Mathlib.Omega.{arith}
 use lib.Dec.{ltb}
 use borrow.Author.Tests.{ltb-true}
 use Rattle.laws.proofs.Bools.{both}
-use Rattle.model.specs.File.{Tree, Demand}
 use Rattle.model.specs.Rules.{Verdict, passed, broken, ask, _then_, recordVerdict, recordsVerdict, fileVerdict}
 use Rattle.model.specs.Calls.{PlanMemory, planVerdict, GreedyMemory, greedyVerdict}
 use Rattle.model.specs.Report.{ReportMemory, reportVerdict}
@@ -37,14 +36,14 @@ ask-numbered : (q i : ℕ) (b : Bool) → isByte q ≡ true → Numbered (ask q 
 ask-numbered q i true h = record { byte = λ p j e. absurd (broken≢passed (sym e)) }
 ask-numbered q i false h = record { byte = λ p j e. cc }
 
-record-numbered : (t : Tree) (d : Demand) (i : ℕ) → Numbered (recordVerdict t d i)
+record-numbered : (file : List ℕ) (i : ℕ) → Numbered (recordVerdict file i)
 unfolding recordVerdict
-record-numbered t d i = search (both-numbered, ask-numbered)
+record-numbered file i = search (both-numbered, ask-numbered)
 
-records-numbered : (t : Tree) (d : Demand) (n : ℕ) → Numbered (recordsVerdict t d n)
+records-numbered : (file : List ℕ) (n : ℕ) → Numbered (recordsVerdict file n)
 unfolding recordsVerdict
-records-numbered t d zero = record { byte = λ p j e. absurd (broken≢passed (sym e)) }
-records-numbered t d (suc i) = both-numbered _ _ (records-numbered t d i) (record-numbered t d i)
+records-numbered file zero = record { byte = λ p j e. absurd (broken≢passed (sym e)) }
+records-numbered file (suc i) = both-numbered _ _ (records-numbered file i) (record-numbered file i)
 
 file-numbered : (file : List ℕ) → Numbered (fileVerdict file)
 unfolding fileVerdict

@@ -7,12 +7,13 @@ use native.Mathlib.Omega.{arith}
 use lib.ListN.{length, take}
 use Rattle.laws.specs.Lists.{has}
 use Rattle.model.specs.File.{Tree, Demand}
-use Rattle.model.specs.Rules.{ascends, isSet}
+use Rattle.model.specs.Rules.{isSet}
 use Rattle.model.specs.Plan.{planTotal}
 use Rattle.model.specs.Greedy.{withNode, withNodes, stops, takes, takenFrom, greedyNodes, greedySet, greedyTotal}
 use Rattle.model.specs.Laws.{Takes, Rests, RunFrom, GreedyRun}
 use Rattle.model.proofs.Plans.{plan-least}
-use Rattle.model.proofs.WithNode.{ascends-with-node, length-with-nodes, has-with-nodes}
+use Rattle.model.proofs.Ascending.{empty-is-set}
+use Rattle.model.proofs.WithNode.{with-node-is-set, length-with-nodes, has-with-nodes}
 use Rattle.model.proofs.GreedySteps.{step-cases, only-takes, takes-not-rests}
 
 module _ (t : Tree) (d : Demand) where
@@ -47,7 +48,7 @@ module _ (t : Tree) (d : Demand) where
   taken-is-set k zero h = h
   taken-is-set k (suc b) h =
       taken-cases (λ g. isSet t (withNodes k g) ≡ true) k b (λ _. h)
-      (λ v p. taken-is-set (withNode v k) b (ascends-with-node (t .count) 0 v k (p .site .0) (p .site .1) (p .outside) h))
+      (λ v p. taken-is-set (withNode v k) b (with-node-is-set t v k (p .site .0) (p .site .1) (p .outside) h))
 
   -- ---- runs from any set
 
@@ -99,8 +100,7 @@ module _ (t : Tree) (d : Demand) where
   greedy-set-has b u = has-with-nodes [] (greedyNodes t d b) u ∙ or-false _
 
   pub greedy-is-set : (b : ℕ) → isSet t (greedySet t d b) ≡ true
-  unfolding ascends
-  greedy-is-set b = taken-is-set [] b refl
+  greedy-is-set b = taken-is-set [] b (empty-is-set t)
 
   pub greedy-within : (b : ℕ) → length (greedySet t d b) ≤ b
   greedy-within b = omega (arith, length-with-nodes [] (greedyNodes t d b), greedy-runs b .within)

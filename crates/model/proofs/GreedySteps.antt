@@ -14,7 +14,7 @@ use Rattle.laws.proofs.Lists.{has-head, has-tail, has-none, in-range, has-those
 use Rattle.laws.proofs.FirstLeast.{no-later-self, no-later-smaller, first-least-one, first-least-two}
 use Rattle.model.specs.File.{Tree, Demand}
 use Rattle.model.specs.Tree.{sites}
-use Rattle.model.specs.Rules.{ascends, isSet}
+use Rattle.model.specs.Rules.{ascends}
 use Rattle.model.specs.Bill.{total}
 use Rattle.model.specs.Greedy.{Step, stops, takes, outside, totalWith, leastNode, stepOver}
 use Rattle.model.specs.Laws.{Takes, Rests}
@@ -23,8 +23,8 @@ use Rattle.model.proofs.Ascending.{ascends-cons, ascends-bounds, ascend
 module _ (t : Tree) (d : Demand) where
   -- ---- the nodes outside a set
 
-  outside-is-set : (k : List ℕ) → isSet t (outside t k) ≡ true
-  outside-is-set k = ascends-those (t .count) _ 0 (sites t) (ascends-range (t .count) 0 (t .count - 1) (omega arith))
+  outside-ascends : (k : List ℕ) → ascends 0 (t .count) (outside t k) ≡ true
+  outside-ascends k = ascends-those (t .count) _ 0 (sites t) (ascends-range (t .count) 0 (t .count - 1) (omega arith))
 
   has-outside : (k : List ℕ) (u : ℕ) → 1 ≤ u → u < t .count → has k u ≡ false → has (outside t k) u ≡ true
   has-outside k u above below lacks = rw (has-those, lacks, in-range 1 (t .count - 1) u above (omega arith))
@@ -48,7 +48,7 @@ module _ (t : Tree) (d : Demand) where
       (λ e. first-least-two f u v u _ vs (has-head u (v ∷ vs)) (no-later-self f u) (omega (arith, ltb-false)) from-u)
 
   -- a fact of a step over an ascending list, by what it does
-  step-over {ℓ} : (P : Step → Type ℓ) (k l : List ℕ) → isSet t l ≡ true
+  step-over {ℓ} : (P : Step → Type ℓ) (k l : List ℕ) → ascends 0 (t .count) l ≡ true
       → (((u : ℕ) → has l u ≡ true → total t d k ≤ totalWith t d k u) → P stops)
       → ((v : ℕ) → FirstLeast (totalWith t d k) l v → totalWith t d k v < total t d k → P (takes v)) → P (stepOver t d k l)
   unfolding stepOver
@@ -61,7 +61,7 @@ module _ (t : Tree) (d : Demand) where
 
   first-least-taken : (k : List ℕ) (v : ℕ) → FirstLeast (totalWith t d k) (outside t k) v → totalWith t d k v < total t d k → Takes t d k v
   first-least-taken k v first lowers =
-      let bounds = ascends-bounds (t .count) 0 v (outside t k) (outside-is-set k) (first .member) in
+      let bounds = ascends-bounds (t .count) 0 v (outside t k) (outside-ascends k) (first .member) in
       record {
         site = omega arith;
         outside = outside-lacks k v (first .member);
@@ -74,7 +74,7 @@ module _ (t : Tree) (d : Demand) where
   pub step-cases {ℓ} : (P : Step → Type ℓ) (k : List ℕ) → (Rests t d k → P stops) → ((v : ℕ) → Takes t d k v → P (takes v))
       → P (stepOver t d k (outside t k))
   step-cases P k resting taking =
-      step-over P k (outside t k) (outside-is-set k)
+      step-over P k (outside t k) (outside-ascends k)
       (λ none. resting record { noneLowers = λ u above below lacks. none u (has-outside k u above below lacks) })
       (λ v first lowers. taking v (first-least-taken k v first lowers))
 

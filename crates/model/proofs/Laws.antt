@@ -10,7 +10,7 @@ use Rattle.model.specs.Rules.{fileVerdict, accepted}
 use Rattle.model.specs.Bill.{linkLoad}
 use Rattle.model.specs.Laws.{Lawful}
 use Rattle.model.proofs.Verdicts.{is-passed}
-use Rattle.model.proofs.Accepted.{accepted-sound}
+use Rattle.model.proofs.Accepted.{hit-bound, accepted-sound}
 use Rattle.model.proofs.Nearest.{distance-grows, cost-is}
 use Rattle.model.proofs.Loads.{links-total}
 use Rattle.model.proofs.BillLaws.{serving-serves, only-serving, cost-least, cost-reached, load-said}
@@ -26,12 +26,13 @@ unfolding accepted linkLoad atOrBelow
 lawful file fits =
     let t = treeOf file in
     let d = demandOf file in
-    let ok = accepted-sound file (is-passed (fileVerdict file) fits) in
+    let passes = is-passed (fileVerdict file) fits in
+    let ok = accepted-sound file passes in
     let pre = ok .preorder in
     record {
       distancesGrow = distance-grows t pre;
       leastAtServing = λ k. cost-is t pre k d;
-      loadsAddUp = λ k. links-total t d pre k (ok .server) (ok .hit);
+      loadsAddUp = λ k. links-total t d pre k (ok .server) (ok .part);
       allSetsExact = all-sets t;
       rankIrreflexive = rank-irreflexive t d;
       rankTransitive = rank-transitive t d;
@@ -55,6 +56,6 @@ lawful file fits =
       costReached = λ k. cost-reached t pre k d;
       loadSaid = λ k v z. load-said t pre k v z d;
       serverLoad = λ k. refl;
-      priceExact = λ c v b. mul-le-mul (ok .hit c) (distance-grows t pre v c b);
-      loadExact = ok .hit;
+      priceExact = λ c v b. mul-le-mul (hit-bound file passes c) (distance-grows t pre v c b);
+      loadExact = hit-bound file passes;
     }

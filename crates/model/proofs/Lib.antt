@@ -1,8 +1,10 @@
 pub mod Cases
 pub mod Worked
 pub mod Verdicts
+pub mod Bytes
 pub mod Accepted
 pub mod Routes
+pub mod Amounts
 pub mod Intervals
 pub mod Depths
 pub mod Nearest

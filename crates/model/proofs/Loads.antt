@@ -3,25 +3,25 @@ use mathlib.Core.Path.{_≡_, refl, ap, sym, _∙_}
 use mathlib.Core.Bool.{Bool, true, false, cond, _||_, or-false, or-assoc}
 use mathlib.Core.List.{List, _∷_}
 use Prim.Native.Nat.{ℕ, zero, suc, _+_, _*_, _-_, _≤_}
-use native.Mathlib.Nat.{mul-assoc, mul-le-mul}
 use native.Mathlib.Omega.{arith}
 use borrow.Author.Tests.{eq-eqb, ne-eqb}
 use Rattle.laws.specs.Lists.{range, sum, has, anyOf}
-use Rattle.laws.proofs.Numbers.{mul-sub-add}
 use Rattle.laws.proofs.Bools.{by-test}
 use Rattle.laws.proofs.Lists.{has-head, has-other, range-bounds}
 use Rattle.laws.proofs.Sums.{sum-mul, sum-none, sum-swap, sum-same, sum-those, sum-point}
 use Rattle.model.specs.File.{Tree, Demand}
 use Rattle.model.specs.Tree.{nodes, sites, route, atOrBelow, distance}
-use Rattle.model.specs.Bill.{thousandths, upTo, price, cost, total, clientLoad, linkLoad, linkTotal, serving}
+use Rattle.model.specs.Bill.{whole, cachable, upTo, cost, total, clientLoad, linkLoad, linkTotal, serving}
 use Rattle.model.specs.Preorder.{Preorder}
+use Rattle.model.specs.Children.{relieved}
 use Rattle.model.proofs.Routes.{route-server, parent-before, route-up, by-route, distance-server, distance-up, route-before}
-use Rattle.model.proofs.Nearest.{serving-server, serving-up, serving-near, cost-is}
+use Rattle.model.proofs.Amounts.{price-amounts, load-amounts}
+use Rattle.model.proofs.Nearest.{serving-server, serving-up, cost-is}
 
 module _ (t : Tree) (d : Demand) (pre : Preorder t) (k : List ℕ) (c : ℕ) where
   -- what the client at c sends over a link before a cache, and after one has served it
   unfoldable pub sent : Bool → ℕ
-  sent served = d .flow c * cond served (thousandths - d .hit c) thousandths
+  sent served = cond served (relieved d c) (whole d c)
 
   -- what it puts on the link above v along the rest l of its route, where a cache was met before or not
   unfoldable pub bears : Bool → List ℕ → ℕ → ℕ
@@ -60,21 +60,18 @@ module _ (t : Tree) (d : Demand) (pre : Preorder t) (k : List ℕ) (c : ℕ) whe
       rw (route-server t)
       (sum-same _ (λ _. 0) (range 1 m) (λ v h. let b = range-bounds 1 m v h in rw (ne-eqb 0 v (λ e. omega arith)) (omega arith)) ∙ sum-none (range 1 m))
 
-  -- a cache saves the cachable part of the flow
-  abbrev saved : ℕ
-  saved = d .flow c * d .hit c
-
-  sent-saved : d .hit c ≤ thousandths → sent true + saved ≡ sent false
+  -- a cache saves the cachable part
+  sent-saved : cachable d c ≤ whole d c → sent true + cachable d c ≡ sent false
   unfolding sent
-  sent-saved h = mul-sub-add (d .flow c) thousandths (d .hit c) h
+  sent-saved h = omega arith
 
   -- over the links from v up the client sends less on each once a cache was met, and else from its serving node on
   abbrev Carried : ℕ → ℕ → Type 0
   Carried m v =
       (carried m true (route t v) ≡ sent true * distance t v)
-      × (carried m false (route t v) + saved * distance t (serving t k v) ≡ sent false * distance t v)
+      × (carried m false (route t v) + cachable d c * distance t (serving t k v) ≡ sent false * distance t v)
 
-  module _ (z : t .linkLength 0 ≡ 0) (h : d .hit c ≤ thousandths) where
+  module _ (z : t .linkLength 0 ≡ 0) (h : cachable d c ≤ whole d c) where
     carried-step : (m i : ℕ) → suc i ≤ m → Carried m (t .parent (suc i)) → Carried m (suc i)
     carried-step m i l ih =
         let p = t .parent (suc i) in
@@ -85,7 +82,7 @@ module _ (t : Tree) (d : Demand) (pre : Preorder t) (k : List ℕ) (c : ℕ) whe
         (by-test
         (λ u.
         (sent true * x + carried m true (route t p) ≡ sent true * (x + distance t p))
-        × (sent u * x + carried m u (route t p) + saved * distance t (cond u (suc i) (serving t k p)) ≡ sent false * (x + distance t p)))
+        × (sent u * x + carried m u (route t p) + cachable d c * distance t (cond u (suc i) (serving t k p)) ≡ sent false * (x + distance t p)))
         (has k (suc i))
         (λ _. rw (distance-up t pre i) (omega (arith, ih .0, less, less′)))
         (λ _. omega (arith, ih .0, ih .1)))
@@ -98,19 +95,18 @@ module _ (t : Tree) (d : Demand) (pre : Preorder t) (k : List ℕ) (c : ℕ) whe
 
     -- what the client carries over all links is its cost
     carried-is : (m : ℕ) → c ≤ m → carried m false (route t c) ≡ cost t d k c
-    unfolding sent price
-    carried-is m l =
-        let s = serving t k c in
-        rw (cost-is t pre k d c)
-        (omega (arith, carried-all m c l .1, mul-assoc (d .flow c) (d .hit c) (distance t s), mul-assoc (d .flow c) thousandths (distance t c), mul-sub-add (d .flow c) (thousandths * distance t c) (d .hit c * distance t s) (mul-le-mul h (serving-near t pre k c))))
+    unfolding sent
+    carried-is m l = rw (cost-is t pre k d c) (omega (arith, carried-all m c l .1, price-amounts d c t (serving t k c)))
 
 module _ (t : Tree) (d : Demand) (pre : Preorder t) (k : List ℕ) where
   pub link-load-is : (v : ℕ) → 1 ≤ v → linkLoad t d k v ≡ sum (λ c. bears t d pre k c false (route t c) v) (nodes t)
-  unfolding linkLoad clientLoad atOrBelow bears sent
+  unfolding linkLoad atOrBelow bears sent
   link-load-is zero h = absurd (omega arith)
-  link-load-is (suc v) h = sum-those (clientLoad t d k (suc v)) (atOrBelow t (suc v)) (nodes t)
+  link-load-is (suc v) h =
+      sum-those (clientLoad t d k (suc v)) (atOrBelow t (suc v)) (nodes t)
+      ∙ sum-same _ _ (nodes t) (λ c _. ap (λ x. cond (atOrBelow t (suc v) c) x 0) (load-amounts d c t k (suc v)))
 
-  pub links-total : t .linkLength 0 ≡ 0 → ((c : ℕ) → d .hit c ≤ thousandths) → linkTotal t d k ≡ total t d k
+  pub links-total : t .linkLength 0 ≡ 0 → ((c : ℕ) → cachable d c ≤ whole d c) → linkTotal t d k ≡ total t d k
   unfolding linkTotal total carried
   links-total z h =
       let m = t .count - 1 in

@@ -2,17 +2,18 @@
 use mathlib.Core.Path.{_≡_, refl, ap, _∙_}
 use mathlib.Core.Bool.{true, cond}
 use mathlib.Core.List.{List, [], _∷_}
-use Prim.Native.Nat.{ℕ, suc, _*_, _≤_}
-use native.Mathlib.Nat.{mul-le-mul-left, sub-le-sub-left}
+use Prim.Native.Nat.{ℕ, suc, _≤_}
+use native.Mathlib.Nat.{mul-le-mul-left}
 use native.Mathlib.Omega.{arith}
 use Rattle.laws.specs.Lists.{least, has, those, firstThat}
 use Rattle.laws.proofs.Bools.{by-test, cond-same}
 use Rattle.laws.proofs.Lists.{has-cases, has-none}
 use Rattle.model.specs.File.{Tree, Demand}
 use Rattle.model.specs.Tree.{route, distance}
-use Rattle.model.specs.Bill.{thousandths, price, cost, serving}
+use Rattle.model.specs.Bill.{cachable, price, cost, serving}
 use Rattle.model.specs.Preorder.{Preorder}
 use Rattle.model.proofs.Routes.{route-server, route-up, by-route, distance-up}
+use Rattle.model.proofs.Amounts.{price-amounts}
 
 -- distances grow along a route
 pub distance-grows : (t : Tree) → Preorder t → (u v : ℕ) → has (route t v) u ≡ true → distance t u ≤ distance t v
@@ -46,8 +47,7 @@ module _ (t : Tree) (pre : Preorder t) (k : List ℕ) where
   module _ (d : Demand) (c : ℕ) where
     -- a nearer node to the client costs it no more
     pub price-falls : (v w : ℕ) → distance t w ≤ distance t v → price t d c v ≤ price t d c w
-    unfolding price
-    price-falls v w h = mul-le-mul-left (d .flow c) (sub-le-sub-left (mul-le-mul-left (d .hit c) h) (thousandths * distance t c))
+    price-falls v w h = omega (arith, price-amounts d c t v, price-amounts d c t w, mul-le-mul-left (cachable d c) h)
 
     -- one link up: v is met first, or the rest of the route decides
     least-up : (v w : ℕ) (l : List ℕ) → distance t w ≤ distance t v → least (price t d c) 0 (those (has k) l) ≡ price t d c w

@@ -18,7 +18,7 @@ use Rattle.model.specs.Tree.{sites, atOrBelow}
 use Rattle.model.specs.Rules.{isSet}
 use Rattle.model.specs.Ties.{smallerFirst, havingFirst, members, visits, tiesBefore, ranksBefore}
 use Rattle.model.specs.Laws.{Alike, Ahead, Decides}
-use Rattle.model.proofs.Ascending.{same-members}
+use Rattle.model.proofs.Ascending.{same-members, set-ascends}
 
 -- ---- the smaller number first, then the rest
 
@@ -168,7 +168,7 @@ module _ (t : Tree) (d : Demand) where
   rank-neither k l g h p q =
       let totals = smaller-neither p q in
       let sizes = smaller-neither (totals .1) (totals .2) in
-      same-members (t .count) 0 k l g h
+      same-members (t .count) 0 k l (set-ascends t k g) (set-ascends t l h)
       (λ v i j. visits-neither t k l (sites t) (sizes .1) (sizes .2) v (in-range 1 (t .count - 1) v i (omega arith)))
 
   pub rank-total : (k l : List ℕ) → isSet t k ≡ true → isSet t l ≡ true → (k ≡ l → ⊥)

@@ -9,12 +9,13 @@ use native.Mathlib.Omega.{arith}
 use lib.ListN.{length}
 use Rattle.laws.proofs.Bools.{by-test, not-both}
 use Rattle.model.specs.File.{Tree, Demand}
-use Rattle.model.specs.Rules.{ascends, isSet}
+use Rattle.model.specs.Rules.{isSet}
 use Rattle.model.specs.Bill.{total}
 use Rattle.model.specs.Ties.{tiesBefore, ranksBefore}
 use Rattle.model.specs.Plan.{allSets, firstOf, plan, planTotal}
 use Rattle.model.specs.Laws.{RanksFirst}
 use Rattle.model.proofs.Order.{smaller-said, rank-irreflexive, rank-transitive, rank-total}
+use Rattle.model.proofs.Ascending.{empty-is-set}
 use Rattle.model.proofs.Sets.{all-sets}
 
 module _ (t : Tree) (d : Demand) where
@@ -67,14 +68,14 @@ module _ (t : Tree) (d : Demand) where
 module _ (t : Tree) (d : Demand) (b : ℕ) where
   -- the plan is a set of at most b nodes
   plan-fits : (isSet t (plan t d b) ≡ true) × (length (plan t d b) ≤ b)
-  unfolding plan ascends
+  unfolding plan
   plan-fits =
-      first-holds t d (λ l. (isSet t l ≡ true) × (length l ≤ b)) [] (allSets t b) (refl, omega arith) (λ l. all-sets t b l .0)
+      first-holds t d (λ l. (isSet t l ≡ true) × (length l ≤ b)) [] (allSets t b) (empty-is-set t, omega arith) (λ l. all-sets t b l .0)
 
   -- and is each set of at most b nodes, or ranks before it
   plan-no-later : (l : List ℕ) → isSet t l ≡ true → length l ≤ b → NoLater t d (plan t d b) l
-  unfolding plan ascends
-  plan-no-later l g h = first-no-later t d [] (allSets t b) refl (λ m i. all-sets t b m .0 i .0) l (inr (all-sets t b l .1 (g, h)))
+  unfolding plan
+  plan-no-later l g h = first-no-later t d [] (allSets t b) (empty-is-set t) (λ m i. all-sets t b m .0 i .0) l (inr (all-sets t b l .1 (g, h)))
 
   pub plan-ranks-first : RanksFirst t d b (plan t d b)
   plan-ranks-first =

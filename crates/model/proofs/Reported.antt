@@ -21,7 +21,7 @@ use Rattle.model.specs.Report.{HoldsOptimum, setOfRow, ReportMemory, Dem
 use Rattle.model.specs.Accepted.{Sound}
 use Rattle.model.proofs.Verdicts.{ask-passed, then-passed, is-passed}
 use Rattle.model.proofs.Accepted.{accepted-sound}
-use Rattle.model.proofs.Ascending.{ascends-cons}
+use Rattle.model.proofs.Ascending.{ascends-cons, set-ascends}
 use Rattle.model.proofs.GreedyRuns.{greedy-no-less}
 use Rattle.model.proofs.Loads.{links-total}
 use Rattle.model.proofs.Plans.{plan-ranks-first, plan-least, plan-ties}
@@ -36,7 +36,7 @@ plan-holds-optimum t d ok b =
       isASet = p .isASet;
       withinBudget = p .within;
       exactTotal = refl;
-      overLinks = sym (links-total t d (ok .preorder) (plan t d b) (ok .server) (ok .hit));
+      overLinks = sym (links-total t d (ok .preorder) (plan t d b) (ok .server) (ok .part));
       noRivalLess = plan-least t d b;
       rivalsLater = plan-ties t d b;
       greedyExact = refl;
@@ -69,7 +69,7 @@ module _ (file : List ℕ) where
             (λ j _ l. length-plan-row file j (omega arith)) (omega arith),
         zero-add b,
       )
-      (those-of-row 0 (t .count) (k - length (plan t d b)) (plan t d b) (plan-ranks-first t d b .isASet))
+      (those-of-row 0 (t .count) (k - length (plan t d b)) (plan t d b) (set-ascends t (plan t d b) (plan-ranks-first t d b .isASet)))
 
   holds-entry : (f : ℕ → ℕ) (rest : List ℕ) (b : ℕ) → b ≤ budgetOf file → getD (map f (budgets file) ++ rest) b 0 ≡ f b
   holds-entry f rest b h = entry-of-range f 0 (suc (budgetOf file)) b rest (omega arith) ∙ ap f (zero-add b)

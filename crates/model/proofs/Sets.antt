@@ -11,7 +11,7 @@ use Rattle.laws.proofs.Lists.{map-has, in-map}
 use Rattle.model.specs.File.{Tree}
 use Rattle.model.specs.Rules.{ascends, isSet}
 use Rattle.model.specs.Plan.{setsOf, allSets}
-use Rattle.model.proofs.Ascending.{ascends-cons, ascends-lower, ascends-split}
+use Rattle.model.proofs.Ascending.{ascends-cons, ascends-lower, ascends-split, set-is}
 
 -- where there is no budget or no node, the empty set is the only one
 none-said : (b a n : ℕ) (k : List ℕ) → min b (n - suc a) ≡ 0
@@ -51,4 +51,4 @@ sets-said (suc m) (suc b) a n k e =
     )
 
 pub all-sets : (t : Tree) (b : ℕ) (k : List ℕ) → List·Memᴰ k (allSets t b) ↔ ((isSet t k ≡ true) × (length k ≤ b))
-all-sets t b k = sets-said (t .count - 1) b 0 (t .count) k refl
+all-sets t b k = rw (set-is t k) (sets-said (t .count - 1) b 0 (t .count) k refl)

@@ -1,8 +1,8 @@
 -- Laws of a set with one node more, and with more nodes.
-use mathlib.Core.Path.{_≡_, refl, ap}
+use mathlib.Core.Path.{_≡_, refl, ap, _∙_}
 use mathlib.Core.Bool.{true, false, cond, _||_, or-assoc, or-comm}
 use mathlib.Core.List.{List, [], _∷_}
-use Prim.Native.Nat.{ℕ, suc, _+_, _<_}
+use Prim.Native.Nat.{ℕ, suc, _+_, _≤_, _<_}
 use native.Mathlib.Omega.{arith}
 use lib.Dec.{ltb, eqb}
 use lib.ListN.{length}
@@ -10,9 +10,10 @@ use borrow.Author.Tests.{ltb-true, ltb-false}
 use Rattle.laws.specs.Lists.{has}
 use Rattle.laws.proofs.Bools.{by-test}
 use Rattle.laws.proofs.Lists.{lacks-head, lacks-tail}
-use Rattle.model.specs.Rules.{ascends}
+use Rattle.model.specs.File.{Tree}
+use Rattle.model.specs.Rules.{ascends, isSet}
 use Rattle.model.specs.Greedy.{withNode, withNodes}
-use Rattle.model.proofs.Ascending.{ascends-cons}
+use Rattle.model.proofs.Ascending.{ascends-cons, set-is, set-ascends}
 
 -- with a node that it lacks it still ascends
 pub ascends-with-node : (n a v : ℕ) (k : List ℕ) → a < v → v < n → has k v ≡ false → ascends a n k ≡ true → ascends a n (withNode v k) ≡ true
@@ -25,6 +26,11 @@ ascends-with-node n a v (u ∷ us) above below lacks h =
     by-test (λ b. ascends a n (cond b (v ∷ u ∷ us) (u ∷ withNode v us)) ≡ true) (ltb v u)
     (λ e. ascends-cons n a v (u ∷ us) .1 (above, below, ascends-cons n v u us .1 (ltb-true v u e, parts .1, parts .2)))
     (λ e. ascends-cons n a u (withNode v us) .1 (parts .0, parts .1, rest (omega (arith, ltb-false))))
+
+-- and is a set, if it is a site's
+pub with-node-is-set : (t : Tree) (v : ℕ) (k : List ℕ) → 1 ≤ v → v < t .count → has k v ≡ false → isSet t k ≡ true → isSet t (withNode v k) ≡ true
+with-node-is-set t v k above below lacks h =
+    set-is t (withNode v k) ∙ ascends-with-node (t .count) 0 v k above below lacks (set-ascends t k h)
 
 pub has-with-node : (v u : ℕ) (k : List ℕ) → has (withNode v k) u ≡ (eqb v u || has k u)
 unfolding withNode has

@@ -3,9 +3,9 @@ use mathlib.Core.Path.{_≡_, refl}
 use mathlib.Core.List.{List, [], _∷_, flatMap}
 use Prim.Native.Nat.{ℕ}
 use Rattle.laws.specs.Lists.{range, sum, least, greatest, has, anyOf, those, howMany, firstThat, same}
-use Rattle.model.specs.File.{number, fieldOf, treeOf, demandOf}
+use Rattle.model.specs.File.{number, recordLength, fieldOf, treeOf, demandOf}
 use Rattle.model.specs.Tree.{climb, route, atOrBelow, depth, height, distance}
-use Rattle.model.specs.Rules.{Verdict, parentHolds, lengthHolds, recordVerdict, recordsVerdict, marked, fileVerdict, accepted, ascends, scratchWords}
+use Rattle.model.specs.Rules.{Verdict, parentHolds, lengthHolds, recordVerdict, recordsVerdict, marked, fileVerdict, accepted, ascends, isSet, scratchWords}
 use Rattle.model.specs.Bill.{price, cost, total, upTo, clientLoad, linkLoad, serving}
 use Rattle.model.specs.Ties.{smallerFirst, members, visits, tiesBefore, ranksBefore}
 use Rattle.model.specs.Plan.{setsOf, firstOf, plan}
@@ -13,7 +13,8 @@ use Rattle.model.specs.Greedy.{withNode, withNodes, leastNode, stepOver,
 use Rattle.model.specs.Calls.{after, ScratchAfter, checkNumber, recordBytes, billVerdict, servingNodes, linkLoads, rankVerdict, ranking, planTotals, planRows, PlanMemory, planVerdict, PlanCall, greedyTotals, greedyRow, GreedyMemory, greedyVerdict, GreedyCall}
 use Rattle.model.specs.Report.{setOfRow, ReportMemory, reportVerdict, ReportCall, digits, decimal, line, reportText, refusalText, programVerdict, programText}
 use Rattle.model.specs.Hosts.{wordsAsked, HostBillMemory, hostBillVerdict, HostBillCall}
-use Rattle.model.specs.Cases.{bytesOf, headerBytes, recordOf, treeA}
+use Rattle.model.specs.Bytes.{bytesOf, headerBytes, recordOf}
+use Rattle.model.specs.Cases.{treeA}
 use Rattle.model.specs.Worked.{fileA, largest, tooLong, Worked}
 
 -- ---- what a call's statement settles
@@ -27,19 +28,19 @@ host-bill-settled c = rw (← c .verdict) (refl, c .totalsAfter, c .servingsAfte
 module _ {file : List ℕ} {v : Verdict} where
   plan-settled : {memory memory′ : PlanMemory} → PlanCall file memory v memory′
       → let w = planVerdict file memory in
-      (v ≡ w) × ScratchAfter w file (memory .scratch) (memory′ .scratch)
+      (v ≡ w) × ScratchAfter w (scratchWords file) (memory .scratch) (memory′ .scratch)
       × (memory′ .totals ≡ after w (planTotals file) (memory .totals)) × (memory′ .rows ≡ after w (planRows file) (memory .rows))
   plan-settled c = rw (← c .verdict) (refl, c .scratchAfter, c .totalsAfter, c .rowsAfter)
 
   greedy-settled : {memory memory′ : GreedyMemory} → GreedyCall file memory v memory′
       → let w = greedyVerdict file memory in
-      (v ≡ w) × ScratchAfter w file (memory .scratch) (memory′ .scratch)
+      (v ≡ w) × ScratchAfter w (scratchWords file) (memory .scratch) (memory′ .scratch)
       × (memory′ .totals ≡ after w (greedyTotals file) (memory .totals)) × (memory′ .nodes ≡ after w (greedyRow file) (memory .nodes))
   greedy-settled c = rw (← c .verdict) (refl, c .scratchAfter, c .totalsAfter, c .nodesAfter)
 
   report-settled : {memory memory′ : ReportMemory} → ReportCall file memory v memory′
       → let w = reportVerdict file memory in
-      (v ≡ w) × ScratchAfter w file (memory .scratch) (memory′ .scratch)
+      (v ≡ w) × ScratchAfter w (scratchWords file) (memory .scratch) (memory′ .scratch)
       × (memory′ .planTotals ≡ after w (planTotals file) (memory .planTotals)) × (memory′ .planRows ≡ after w (planRows file) (memory .planRows))
       × (memory′ .greedyTotals ≡ after w (greedyTotals file) (memory .greedyTotals)) × (memory′ .greedyNodes ≡ after w (greedyRow file) (memory .greedyNodes))
   report-settled c =
@@ -48,7 +49,7 @@ module _ {file : List ℕ} {v : Verdict} where
 -- ---- the cases
 
 pub worked : Worked
-unfolding fileA largest tooLong bytesOf headerBytes recordOf treeA flatMap range sum least greatest has anyOf those howMany firstThat same number fieldOf climb route atOrBelow depth height distance parentHolds lengthHolds recordVerdict recordsVerdict marked fileVerdict accepted ascends scratchWords price cost total upTo clientLoad linkLoad serving smallerFirst members visits tiesBefore ranksBefore setsOf firstOf plan withNode withNodes leastNode stepOver takenFrom checkNumber recordBytes billVerdict rankVerdict ranking planTotals planRows planVerdict greedyTotals greedyRow greedyVerdict setOfRow reportVerdict digits decimal line reportText refusalText programVerdict programText wordsAsked hostBillVerdict
+unfolding fileA largest tooLong bytesOf headerBytes recordOf treeA flatMap range sum least greatest has anyOf those howMany firstThat same number recordLength fieldOf climb route atOrBelow depth height distance parentHolds lengthHolds recordVerdict recordsVerdict marked fileVerdict accepted ascends isSet scratchWords price cost total upTo clientLoad linkLoad serving smallerFirst members visits tiesBefore ranksBefore setsOf firstOf plan withNode withNodes leastNode stepOver takenFrom checkNumber recordBytes billVerdict rankVerdict ranking planTotals planRows planVerdict greedyTotals greedyRow greedyVerdict setOfRow reportVerdict digits decimal line reportText refusalText programVerdict programText wordsAsked hostBillVerdict
 worked = record {
   files = record {
     offsets = refl;

@@ -7,6 +7,7 @@ use lib.ListN.{length}
 use Rattle.model.specs.File.{Tree, Demand, treeOf, demandOf, countOf, budgetOf, recordAt, mostNodes, mostBudget, mostDepth, mostLength, mostFlow, mostHit}
 use Rattle.model.specs.Tree.{depth}
 use Rattle.model.specs.Rules.{passed, parentHolds, lengthHolds, recordsVerdict}
+use Rattle.model.specs.Bill.{whole, cachable}
 use Rattle.model.specs.Preorder.{Preorder}
 
 -- what rules 4 to 6 say of the header, and that no record breaks a rule
@@ -14,16 +15,16 @@ pub record HeaderHolds (s : List ℕ) : Type 0 where
   pub some : 1 ≤ countOf s
   pub few : countOf s ≤ mostNodes
   pub budget : budgetOf s ≤ mostBudget
-  pub exact : length s ≡ recordAt (countOf s)
-  pub records : recordsVerdict (treeOf s) (demandOf s) (countOf s) ≡ passed
+  pub exact : length s ≡ recordAt s (countOf s)
+  pub records : recordsVerdict s (countOf s) ≡ passed
 
 -- what rules 7 to 11 say of record i
-pub record RecordHolds (t : Tree) (d : Demand) (i : ℕ) : Type 0 where
-  pub parent : parentHolds t i ≡ true
-  pub shallow : depth t i ≤ mostDepth
-  pub linkLength : lengthHolds t i ≡ true
-  pub flow : d .flow i ≤ mostFlow
-  pub hit : d .hit i ≤ mostHit
+pub record RecordHolds (s : List ℕ) (i : ℕ) : Type 0 where
+  pub parent : parentHolds (treeOf s) i ≡ true
+  pub shallow : depth (treeOf s) i ≤ mostDepth
+  pub linkLength : lengthHolds (treeOf s) i ≡ true
+  pub flow : demandOf s .flow i ≤ mostFlow
+  pub hit : demandOf s .hit i ≤ mostHit
 
 -- what the laws ask of a tree and its demand, at every node number: an accepted file's are sound
 pub record Sound (t : Tree) (d : Demand) : Type 0 where
@@ -34,4 +35,4 @@ pub record Sound (t : Tree) (d : Demand) : Type 0 where
   pub shallow : (v : ℕ) → depth t v ≤ mostDepth
   pub short : (v : ℕ) → t .linkLength v ≤ mostLength
   pub flow : (v : ℕ) → d .flow v ≤ mostFlow
-  pub hit : (v : ℕ) → d .hit v ≤ mostHit
+  pub part : (v : ℕ) → cachable d v ≤ whole d v

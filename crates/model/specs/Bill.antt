@@ -20,6 +20,19 @@ unfoldable pub upTo : ℕ → List ℕ → List ℕ
 upTo v [] = []
 upTo v (u ∷ us) = let r = upTo v us in u ∷ cond (eqb u v) [] r
 
+-- ---- what a client asks for, in thousandths
+
+module _ (d : Demand) (c : ℕ) where
+  -- all of it
+  unfoldable pub whole : ℕ
+  whole = d .flow c * thousandths
+
+  -- the part of it that a cache can serve
+  unfoldable pub cachable : ℕ
+  cachable = d .flow c * d .hit c
+
+-- ---- what a set costs
+
 module _ (t : Tree) (d : Demand) where
   -- f × (1,000 × d(c) − p × d(v)): what the client at c would cost if v served it. For v on the route of c and an accepted
   -- file no difference is cut off at 0 (law m).

@@ -8,7 +8,7 @@ use mathlib.Core.Logic.{_↔_}
 use Prim.Native.Nat.{ℕ, _+_, _*_, _-_, _/_, _%_, _≤_}
 use lib.ListN.{length, getD}
 use Rattle.model.specs.File.{treeOf, demandOf, budgetOf}
-use Rattle.model.specs.Rules.{Verdict, passed, broken, scratchWords}
+use Rattle.model.specs.Rules.{Verdict, passed, broken}
 use Rattle.model.specs.Bill.{linkTotal}
 use Rattle.model.specs.Ties.{ranksBefore}
 use Rattle.model.specs.Plan.{plan, planTotal}
@@ -61,9 +61,9 @@ pub record CallsLawful (file : List ℕ) : Type 0 where
       ↔ ((planBuffersLong file (memory .planTotals) (memory .planRows) ≡ true)
       × (greedyBuffersLong file (memory .greedyTotals) (memory .greedyNodes) ≡ true))
   -- "Only scratch after an accepted call is free": its first words; the others and the length stay, and a refusal keeps all
-  pub scratchStays : (old new : List ℕ) → ScratchAfter passed file old new
-      → (length new ≡ length old) × ((i : ℕ) → scratchWords file ≤ i → getD new i 0 ≡ getD old i 0)
-  pub scratchKept : (q i : ℕ) (old new : List ℕ) → ScratchAfter (broken q i) file old new → new ≡ old
+  pub scratchStays : (words : ℕ) (old new : List ℕ) → ScratchAfter passed words old new
+      → (length new ≡ length old) × ((i : ℕ) → words ≤ i → getD new i 0 ≡ getD old i 0)
+  pub scratchKept : (words q i : ℕ) (old new : List ℕ) → ScratchAfter (broken q i) words old new → new ≡ old
   -- the report call meets demand 3
   pub demandMet : (memory memory′ : ReportMemory) → ReportCall file memory passed memory′ → DemandThree file memory′
   -- Demand 3 leaves no choice: at each budget one set and two totals meet it. The first is the sum over links, and no more

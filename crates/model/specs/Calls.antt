@@ -33,10 +33,9 @@ after (broken q i) written old = old
 
 -- the scratch after a call: the words that question 13 asks for are free, the words beyond them and the length stay; a
 -- refusal changes nothing
-abbrev pub ScratchAfter : Verdict → List ℕ → List ℕ → List ℕ → Type 0
-ScratchAfter passed file old new =
-    (length new ≡ length old) × (drop (scratchWords file) new ≡ drop (scratchWords file) old)
-ScratchAfter (broken q i) file old new = new ≡ old
+abbrev pub ScratchAfter : Verdict → ℕ → List ℕ → List ℕ → Type 0
+ScratchAfter passed words old new = (length new ≡ length old) × (drop words new ≡ drop words old)
+ScratchAfter (broken q i) words old new = new ≡ old
 
 -- ---- the check for a C host: 0, or the number of the first broken rule among 1 to 11
 
@@ -50,7 +49,7 @@ checkNumber file = numberOf (fileVerdict file)
 -- ---- the record of a node: its ten bytes, "empty if the file is refused or the node is not below n"
 
 unfoldable pub recordBytes : List ℕ → ℕ → List ℕ
-recordBytes file v = cond (accepted file && ltb v (countOf file)) (part file (recordAt v) recordLength) []
+recordBytes file v = cond (accepted file && ltb v (countOf file)) (part file (recordAt file v) (recordLength file)) []
 
 -- ---- the bill of a set
 
@@ -130,7 +129,7 @@ planVerdict file memory =
 -- what the plan call guarantees for all arguments
 pub record PlanCall (file : List ℕ) (memory : PlanMemory) (v : Verdict) (memory′ : PlanMemory) : Type 0 where
   pub verdict : v ≡ planVerdict file memory
-  pub scratchAfter : ScratchAfter v file (memory .scratch) (memory′ .scratch)
+  pub scratchAfter : ScratchAfter v (scratchWords file) (memory .scratch) (memory′ .scratch)
   pub totalsAfter : memory′ .totals ≡ after v (planTotals file) (memory .totals)
   pub rowsAfter : memory′ .rows ≡ after v (planRows file) (memory .rows)
 
@@ -160,6 +159,6 @@ greedyVerdict file memory =
 -- what the greedy call guarantees for all arguments
 pub record GreedyCall (file : List ℕ) (memory : GreedyMemory) (v : Verdict) (memory′ : GreedyMemory) : Type 0 where
   pub verdict : v ≡ greedyVerdict file memory
-  pub scratchAfter : ScratchAfter v file (memory .scratch) (memory′ .scratch)
+  pub scratchAfter : ScratchAfter v (scratchWords file) (memory .scratch) (memory′ .scratch)
   pub totalsAfter : memory′ .totals ≡ after v (greedyTotals file) (memory .totals)
   pub nodesAfter : memory′ .nodes ≡ after v (greedyRow file) (memory .nodes)

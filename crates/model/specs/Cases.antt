@@ -1,10 +1,11 @@
 -- Document 01, "Trees to try": the twelve cases marked *, in its order, and the test that they hold.
 use mathlib.Core.Bool.{Bool, true, _&&_}
 use mathlib.Core.List.{List, [], _∷_, _++_, map, flatMap}
-use Prim.Native.Nat.{ℕ, zero, suc, _/_, _%_}
+use Prim.Native.Nat.{ℕ}
 use lib.Dec.{eqb}
 use Rattle.laws.specs.Lists.{same}
-use Rattle.model.specs.File.{mark, version, treeOf, demandOf}
+use Rattle.model.specs.File.{treeOf, demandOf}
+use Rattle.model.specs.Bytes.{headerBytes, recordOf}
 use Rattle.model.specs.Tree.{nodes}
 use Rattle.model.specs.Rules.{accepted}
 use Rattle.model.specs.Bill.{total, linkLoad}
@@ -12,19 +13,7 @@ use Rattle.model.specs.Plan.{plan}
 use Rattle.model.specs.Calls.{budgets}
 use Rattle.model.specs.Report.{programText}
 
--- ---- the bytes of a file
-
--- x in w bytes, most significant first
-unfoldable pub bytesOf : ℕ → ℕ → List ℕ
-bytesOf zero x = []
-bytesOf (suc w) x = bytesOf w (x / 256) ++ (x % 256 ∷ [])
-
-unfoldable pub headerBytes : ℕ → ℕ → List ℕ
-headerBytes n k = mark ++ bytesOf 2 version ++ bytesOf 2 n ++ bytesOf 2 k
-
--- parent, length, flow, hit
-unfoldable pub recordOf : ℕ → ℕ → ℕ → ℕ → List ℕ
-recordOf p l f h = bytesOf 2 p ++ bytesOf 2 l ++ bytesOf 4 f ++ bytesOf 2 h
+-- ---- the files
 
 -- tree A with flow f and hit h at nodes 2 and 3, and g and i at node 4
 unfoldable pub treeA : ℕ → ℕ → ℕ → ℕ → List ℕ

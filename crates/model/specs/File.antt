@@ -41,9 +41,6 @@ version = 1
 abbrev pub headerLength : ℕ
 headerLength = 9
 
-abbrev pub recordLength : ℕ
-recordLength = 10
-
 abbrev pub versionOf : List ℕ → ℕ
 versionOf s = number 2 s 3
 
@@ -55,9 +52,13 @@ countOf s = number 2 s 5
 abbrev pub budgetOf : List ℕ → ℕ
 budgetOf s = number 2 s 7
 
+-- the bytes of a record: 10 in version 1
+unfoldable pub recordLength : List ℕ → ℕ
+recordLength s = 10
+
 -- where the record of node i begins
-abbrev pub recordAt : ℕ → ℕ
-recordAt i = headerLength + recordLength * i
+abbrev pub recordAt : List ℕ → ℕ → ℕ
+recordAt s i = headerLength + recordLength s * i
 
 -- ---- the table of a record's four fields
 
@@ -85,7 +86,7 @@ fieldTable = parentField ∷ lengthField ∷ flowField ∷ hitField ∷ []
 
 -- a field of the record of node i
 unfoldable pub fieldOf : List ℕ → Field → ℕ → ℕ
-fieldOf s f i = number (f .width) s (recordAt i + f .offset)
+fieldOf s f i = number (f .width) s (recordAt s i + f .offset)
 
 -- ---- what a file holds: the shape of the tree, and what its clients ask for
 

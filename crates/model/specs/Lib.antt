@@ -1,4 +1,5 @@
 pub mod File
+pub mod Bytes
 pub mod Tree
 pub mod Rules
 pub mod Bill

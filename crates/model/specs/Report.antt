@@ -8,7 +8,7 @@ use lib.ListN.{length, take, getD}
 use Rattle.laws.specs.Lists.{part, those}
 use Rattle.model.specs.File.{Tree, Demand, treeOf, demandOf, countOf, budgetOf}
 use Rattle.model.specs.Tree.{height}
-use Rattle.model.specs.Rules.{Verdict, passed, broken, _then_, fileVerdict, isSet, askScratch, askBuffers, askProgram}
+use Rattle.model.specs.Rules.{Verdict, passed, broken, _then_, fileVerdict, isSet, scratchWords, askScratch, askBuffers, askProgram}
 use Rattle.model.specs.Bill.{total, linkTotal}
 use Rattle.model.specs.Ties.{tiesBefore}
 use Rattle.model.specs.Plan.{plan, planTotal}
@@ -67,7 +67,7 @@ reportVerdict file memory =
 -- what the report call guarantees for all arguments
 pub record ReportCall (file : List ℕ) (memory : ReportMemory) (v : Verdict) (memory′ : ReportMemory) : Type 0 where
   pub verdict : v ≡ reportVerdict file memory
-  pub scratchAfter : ScratchAfter v file (memory .scratch) (memory′ .scratch)
+  pub scratchAfter : ScratchAfter v (scratchWords file) (memory .scratch) (memory′ .scratch)
   pub planTotalsAfter : memory′ .planTotals ≡ after v (planTotals file) (memory .planTotals)
   pub planRowsAfter : memory′ .planRows ≡ after v (planRows file) (memory .planRows)
   pub greedyTotalsAfter : memory′ .greedyTotals ≡ after v (greedyTotals file) (memory .greedyTotals)

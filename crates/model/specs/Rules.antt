@@ -6,7 +6,7 @@ use Prim.Native.Nat.{ℕ, zero, suc, _+_, _*_}
 use lib.Dec.{leb, ltb, eqb}
 use lib.ListN.{length, take}
 use Rattle.laws.specs.Lists.{has, same}
-use Rattle.model.specs.File.{Tree, Demand, treeOf, demandOf, mostNodes, mostBudget, mostDepth, mark, version, headerLength, versionOf, countOf, budgetOf, recordAt, lengthField, flowField, hitField}
+use Rattle.model.specs.File.{Tree, treeOf, demandOf, mostNodes, mostBudget, mostDepth, mark, version, headerLength, versionOf, countOf, budgetOf, recordAt, lengthField, flowField, hitField}
 use Rattle.model.specs.Tree.{route, depth, height}
 
 -- no rule broken so far, or the first broken one: its number and its record
@@ -42,8 +42,10 @@ lengthHolds t zero = eqb (t .linkLength 0) 0
 lengthHolds t (suc i) = leb (t .linkLength (suc i)) (lengthField .most)
 
 -- 8: "Is the depth at most 32?" 10: "Is the flow at most 100,000,000?" 11: "Is the hit at most 1,000?"
-unfoldable pub recordVerdict : Tree → Demand → ℕ → Verdict
-recordVerdict t d i =
+unfoldable pub recordVerdict : List ℕ → ℕ → Verdict
+recordVerdict s i =
+    let t = treeOf s in
+    let d = demandOf s in
     ask 7 i (parentHolds t i)
     then ask 8 i (leb (depth t i) mostDepth)
     then ask 9 i (lengthHolds t i)
@@ -51,9 +53,9 @@ recordVerdict t d i =
     then ask 11 i (leb (d .hit i) (hitField .most))
 
 -- the first n records, "each through 7 to 11 before the next"
-unfoldable pub recordsVerdict : Tree → Demand → ℕ → Verdict
-recordsVerdict t d zero = passed
-recordsVerdict t d (suc i) = recordsVerdict t d i then recordVerdict t d i
+unfoldable pub recordsVerdict : List ℕ → ℕ → Verdict
+recordsVerdict s zero = passed
+recordsVerdict s (suc i) = recordsVerdict s i then recordVerdict s i
 
 -- ---- rules 1 to 11
 
@@ -70,8 +72,8 @@ fileVerdict s =
     then ask 3 0 (eqb (versionOf s) version)
     then ask 4 0 (leb 1 (countOf s) && leb (countOf s) mostNodes)
     then ask 5 0 (leb (budgetOf s) mostBudget)
-    then ask 6 0 (eqb (length s) (recordAt (countOf s)))
-    then recordsVerdict (treeOf s) (demandOf s) (countOf s)
+    then ask 6 0 (eqb (length s) (recordAt s (countOf s)))
+    then recordsVerdict s (countOf s)
 
 -- "A file is accepted when no question about the file itself, here 1 to 11, gets a no"
 unfoldable pub accepted : List ℕ → Bool
@@ -85,7 +87,7 @@ ascends a n [] = true
 ascends a n (v ∷ vs) = ltb a v && ltb v n && ascends v n vs
 
 -- a set: strictly ascending, each from 1 to n − 1
-abbrev pub isSet : Tree → List ℕ → Bool
+unfoldable pub isSet : Tree → List ℕ → Bool
 isSet t k = ascends 0 (t .count) k
 
 -- 12: "Is the set strictly ascending, each from 1 to n − 1?"

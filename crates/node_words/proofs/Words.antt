@@ -8,10 +8,10 @@ use lib.ListN.{take, set, length-set}
 use lib.Seq.{getD-set-same, getD-set-other}
 use Rattle.laws.specs.Fronts.{FrontOnly}
 use Rattle.laws.proofs.Fronts.{same-front-entry}
-use Rattle.model.specs.File.{Tree, treeOf, demandOf}
+use Rattle.model.specs.File.{Tree, treeOf, demandOf, countOf}
 use Rattle.model.specs.Accepted.{Sound}
 use Rattle.model.proofs.Routes.{parent-before}
-use Rattle.model.proofs.Accepted.{accepted-header, accepted-sound}
+use Rattle.model.proofs.Accepted.{record-before, accepted-header, accepted-sound}
 use Rattle.fields.specs.Table.{InFile}
 use Rattle.best_rows.specs.TreeRows.{NoneOrChild}
 use Rattle.best_rows.proofs.TreeRows.{first-child-stands, next-sibling-stands}
@@ -68,7 +68,10 @@ module _ {file : List ℕ} {n : ℕ} {s : List ℕ} (r : NodeRoom file n s) wher
   room-some = omega (arith, r .count, room-sound .some)
 
   pub room-record : {v : ℕ} → v < n → InFile file v
-  room-record h = let head = accepted-header file (r .accepted) in record { node = omega (arith, r .count, head .few); long = omega (arith, r .count, head .exact) }
+  room-record {v} h =
+      let head = accepted-header file (r .accepted) in
+      let here : v < countOf file = omega (arith, r .count) in
+      record { node = omega (arith, head .few); long = omega (arith, head .exact, record-before file here) }
 
   -- room for the nodes stays
   pub room-kept : {l : List ℕ} → FrontOnly (nodeWords * n) s l → NodeRoom file n l

@@ -23,6 +23,7 @@ use Rattle.model.proofs.Written.{length-plan-row}
 use Rattle.fields.specs.declared.Tree as code
 use Rattle.best_rows.specs.Least.{better, firstLeast}
 use Rattle.best_rows.specs.Best.{cap}
+use Rattle.best_rows.specs.Guarded.{free}
 use Rattle.best_rows.specs.TreeRows.{firstChild}
 use Rattle.best_rows.specs.BestAt.{bestAt, bestNodes, leastCount}
 use Rattle.best_rows.proofs.Least.{better-cases, first-least-within}
@@ -58,23 +59,23 @@ better-second f x y e h = rw (sym e ∙ h)
 better-self : (f : ℕ → ℕ) (x : ℕ) → better f x x ≡ x
 better-self f x = better-cases (λ y. y ≡ x) f x x (λ h. refl) (λ h. refl)
 
-module _ (t : Tree) (d : Demand) where
+module _ (t : Tree) (d : Demand) (allows : ℕ → Bool → Bool) where
   -- the count of budget b is the better of that of the budget before and b
-  least-count-next : (b : ℕ) → better (bestAt t d (firstChild t 0) 0) (leastCount t d (b - 1)) b ≡ leastCount t d b
+  least-count-next : (b : ℕ) → better (bestAt t d allows (firstChild t 0) 0) (leastCount t d allows (b - 1)) b ≡ leastCount t d allows b
   unfolding leastCount firstLeast
-  least-count-next zero = better-self (bestAt t d (firstChild t 0) 0) 0
+  least-count-next zero = better-self (bestAt t d allows (firstChild t 0) 0) 0
   least-count-next (suc b) = let before : suc b - 1 ≡ b = omega arith in rw before
 
-  least-count-within : (b : ℕ) → leastCount t d b ≤ b
+  least-count-within : (b : ℕ) → leastCount t d allows b ≤ b
   unfolding leastCount
-  least-count-within b = first-least-within (bestAt t d (firstChild t 0) 0) b
+  least-count-within b = first-least-within (bestAt t d allows (firstChild t 0) 0) b
 
 -- ---- one budget
 
 module _ {file : List ℕ} {sizes : code.Tree} {s : List ℕ} {b last : ℕ} (r : Budget file sizes s b last) where
   -- that many caches of the server's row are the plan, and cost its total
-  found : (bestNodes (treeOf file) (demandOf file) (firstChild (treeOf file) 0) 0 (leastCount (treeOf file) (demandOf file) b) ≡ plan (treeOf file) (demandOf file) b)
-      × (bestAt (treeOf file) (demandOf file) (firstChild (treeOf file) 0) 0 (leastCount (treeOf file) (demandOf file) b) ≡ planTotal (treeOf file) (demandOf file) b)
+  found : (bestNodes (treeOf file) (demandOf file) free (firstChild (treeOf file) 0) 0 (leastCount (treeOf file) (demandOf file) free b) ≡ plan (treeOf file) (demandOf file) b)
+      × (bestAt (treeOf file) (demandOf file) free (firstChild (treeOf file) 0) 0 (leastCount (treeOf file) (demandOf file) free b) ≡ planTotal (treeOf file) (demandOf file) b)
   found = optimum-found file (r .table .stored .room .accepted) b
 
   ok : Sound (treeOf file) (demandOf file)
@@ -91,7 +92,7 @@ module _ {file : List ℕ} {sizes : code.Tree} {s : List ℕ} {b last : ℕ} (r 
       rw (table-child (r .table) (ok .some) e) (room-place room (rw (room-count room) (served .node)) (omega arith), room-long room)
 
   abbrev serverBest : ℕ → ℕ
-  serverBest = bestAt (treeOf file) (demandOf file) (firstChild (treeOf file) 0) 0
+  serverBest = bestAt (treeOf file) (demandOf file) free (firstChild (treeOf file) 0) 0
 
   module _ {child : ℕ} {l : List ℕ} (e : child ≡ wordOf s 0 childWord) (f : l ≡ lineIn sizes s child 0) where
     -- holds the least of that row for each count
@@ -104,13 +105,13 @@ module _ {file : List ℕ} {sizes : code.Tree} {s : List ℕ} {b last : ℕ} (r 
         let has : HasLine t first 0 = ⊎-elim (λ z. inl z) (λ w. inr (omega (arith, w .0))) (served .way) in
         rw (table-child (r .table) (ok .some) e) at f
         ∙ r .table .lines first 0 node (omega arith) has (inr (omega arith))
-        ∙ line-under t (demandOf file) (width sizes) first 0 0 (inr (ancestor-server t (ok .preorder) first))
+        ∙ line-under t (demandOf file) free (width sizes) first 0 0 (inr (ancestor-server t (ok .preorder) first))
 
     wide : b < width sizes
     wide = omega (arith, table-budget (r .table), r .within)
 
     last-within : last ≤ b
-    last-within = omega (arith, r .counted, least-count-within (treeOf file) (demandOf file) (b - 1))
+    last-within = omega (arith, r .counted, least-count-within (treeOf file) (demandOf file) free (b - 1))
 
     -- it has entries for both counts
     pub counts-there : (last < length l) × (b < length l)
@@ -120,14 +121,14 @@ module _ {file : List ℕ} {sizes : code.Tree} {s : List ℕ} {b last : ℕ} (r 
 
     module _ {count : ℕ} (c : count ≡ better (λ n. getD l n 0) last b) where
       -- the better of them by it is the count of budget b
-      pub count-found : count ≡ leastCount (treeOf file) (demandOf file) b
+      pub count-found : count ≡ leastCount (treeOf file) (demandOf file) free b
       count-found =
           c
           ∙ better-by-line serverBest (width sizes) last b server-line (omega (arith, wide, last-within)) wide
-          ∙ rw (r .counted) (least-count-next (treeOf file) (demandOf file) b)
+          ∙ rw (r .counted) (least-count-next (treeOf file) (demandOf file) free b)
 
       count-within : count ≤ b
-      count-within = rw count-found (least-count-within (treeOf file) (demandOf file) b)
+      count-within = rw count-found (least-count-within (treeOf file) (demandOf file) free b)
 
       pub count-there : count < length l
       count-there = omega (arith, count-within, counts-there .1)
@@ -143,7 +144,7 @@ module _ {file : List ℕ} {sizes : code.Tree} {s : List ℕ} {b last : ℕ} (r 
 
       -- the server's row can have that many caches, and there is room for the row of the answer
       pub budget-row : {totals rows : List ℕ} → Buffers file totals rows
-          → RowToWalk file sizes s (firstChild (treeOf file) 0) 0 count (b * sizes .budget) rows × (b * sizes .budget + sizes .budget ≤ length rows)
+          → RowToWalk file free sizes s (firstChild (treeOf file) 0) 0 count (b * sizes .budget) rows × (b * sizes .budget + sizes .budget ≤ length rows)
       unfolding cap
       budget-row {rows = rows} long =
           let t = treeOf file in
@@ -165,18 +166,18 @@ module _ {file : List ℕ} {sizes : code.Tree} {s : List ℕ} {b last : ℕ} (r 
 
       -- what is written there is the plan's row
       pub row-found : (rows : List ℕ) (at : ℕ) {l : List ℕ}
-          → l ≡ sets rows at (row (sizes .budget) (bestNodes (treeOf file) (demandOf file) (firstChild (treeOf file) 0) 0 count))
+          → l ≡ sets rows at (row (sizes .budget) (bestNodes (treeOf file) (demandOf file) free (firstChild (treeOf file) 0) 0 count))
           → l ≡ sets rows at (planRow file b)
       row-found rows at e = rw (table-budget (r .table), count-found, found .0) at e
 
 -- ---- a row of the answer
 
-module _ {file : List ℕ} {sizes : code.Tree} {s : List ℕ} {m at : ℕ} {rows : List ℕ}
-    (w : RowToWalk file sizes s (firstChild (treeOf file) 0) 0 m at rows) where
+module _ {file : List ℕ} {allows : ℕ → Bool → Bool} {sizes : code.Tree} {s : List ℕ} {m at : ℕ} {rows : List ℕ}
+    (w : RowToWalk file allows sizes s (firstChild (treeOf file) 0) 0 m at rows) where
   first-is : {child : ℕ} → child ≡ wordOf s 0 childWord → child ≡ firstChild (treeOf file) 0
   first-is e = table-child (w .table) (table-sound (w .table) .some) e
 
-  pub row-first : {child : ℕ} → child ≡ wordOf s 0 childWord → RowToWalk file sizes s child 0 m at rows
+  pub row-first : {child : ℕ} → child ≡ wordOf s 0 childWord → RowToWalk file allows sizes s child 0 m at rows
   row-first e = rw (first-is e) w
 
   -- the caches end within the row
@@ -185,11 +186,11 @@ module _ {file : List ℕ} {sizes : code.Tree} {s : List ℕ} {m at : ℕ} {rows
 
   -- after them come zeros
   pub row-then-zeros : {child end : ℕ} {l r : List ℕ} (k : ℕ) → child ≡ wordOf s 0 childWord → end ≡ at + m
-      → l ≡ sets rows at (bestNodes (treeOf file) (demandOf file) child 0 m) → r ≡ sets l end (replicate (at + k - end) 0)
-      → r ≡ sets rows at (row k (bestNodes (treeOf file) (demandOf file) (firstChild (treeOf file) 0) 0 m))
+      → l ≡ sets rows at (bestNodes (treeOf file) (demandOf file) allows child 0 m) → r ≡ sets l end (replicate (at + k - end) 0)
+      → r ≡ sets rows at (row k (bestNodes (treeOf file) (demandOf file) allows (firstChild (treeOf file) 0) 0 m))
   row-then-zeros k c e f g =
-      let nodes = bestNodes (treeOf file) (demandOf file) (firstChild (treeOf file) 0) 0 m in
-      let long : length nodes ≡ m = length-best-nodes (treeOf file) (demandOf file) (firstChild (treeOf file) 0) 0 m (w .row .attained) in
+      let nodes = bestNodes (treeOf file) (demandOf file) allows (firstChild (treeOf file) 0) 0 m in
+      let long : length nodes ≡ m = length-best-nodes (treeOf file) (demandOf file) allows (firstChild (treeOf file) 0) 0 m (w .row .attained) in
       let left : at + k - (at + m) ≡ k - m = omega arith in
       rw (g, f, e, left, first-is c, sets-append rows at nodes (replicate (k - length nodes) 0), long)
 
@@ -208,15 +209,15 @@ module _ {file totals rows : List ℕ} where
   }
 
   module _ {b last : ℕ} {totals′ rows′ : List ℕ} (p : Planned file totals rows b last totals′ rows′) where
-    pub plan-budget : {sizes : code.Tree} {s : List ℕ} → Table file sizes s → b ≤ sizes .budget → Budget file sizes s b last
+    pub plan-budget : {sizes : code.Tree} {s : List ℕ} → Table file free sizes s → b ≤ sizes .budget → Budget file sizes s b last
     plan-budget t h = record { table = t; within = rw (table-budget t) at h; counted = p .counted }
 
     pub plan-buffers : Buffers file totals rows → Buffers file totals′ rows′
     plan-buffers long = record { totalsLong = rw (p .totalsLong) (long .totalsLong); rowsLong = rw (p .rowsLong) (long .rowsLong) }
 
     -- budget b written
-    pub plan-turns : {sizes : code.Tree} {s : List ℕ} {count : ℕ} {t r : List ℕ} → Table file sizes s → b ≤ sizes .budget
-        → count ≡ leastCount (treeOf file) (demandOf file) b
+    pub plan-turns : {sizes : code.Tree} {s : List ℕ} {count : ℕ} {t r : List ℕ} → Table file free sizes s → b ≤ sizes .budget
+        → count ≡ leastCount (treeOf file) (demandOf file) free b
         → t ≡ set totals′ b (planTotal (treeOf file) (demandOf file) b) → r ≡ sets rows′ (b * sizes .budget) (planRow file b)
         → length t ≡ length totals′ → length r ≡ length rows′
         → Planned file totals rows (b + 1) count t r
@@ -233,7 +234,7 @@ module _ {file totals rows : List ℕ} where
         }
 
     -- after the last budget the plan is written
-    pub plan-ends : {sizes : code.Tree} {s : List ℕ} → Table file sizes s → sizes .budget < b
+    pub plan-ends : {sizes : code.Tree} {s : List ℕ} → Table file free sizes s → sizes .budget < b
         → (totals′ ≡ sets totals 0 (planTotals file)) × (rows′ ≡ sets rows 0 (planRows file))
     unfolding planTotals planRows
     plan-ends {sizes} table h =

@@ -25,7 +25,7 @@ use Rattle.optimum.proofs.Nodes.{row-has-node, row-without, node-withou
 
 -- ---- what a table says
 
-module _ {file : List ℕ} {sizes : code.Tree} {s : List ℕ} (r : Table file sizes s) where
+module _ {file : List ℕ} {allows : ℕ → Bool → Bool} {sizes : code.Tree} {s : List ℕ} (r : Table file allows sizes s) where
   pub table-sound : Sound (treeOf file) (demandOf file)
   table-sound = room-sound (r .stored .room)
 
@@ -41,17 +41,17 @@ module _ {file : List ℕ} {sizes : code.Tree} {s : List ℕ} (r : Table file si
 
 -- ---- at a node with n caches at or below it
 
-module _ {file : List ℕ} {sizes : code.Tree} {s : List ℕ} {x serving n : ℕ} {member : Bool} {at : ℕ} {rows : List ℕ}
-    (r : NodeToWalk file sizes s x serving n member at rows) where
+module _ {file : List ℕ} {allows : ℕ → Bool → Bool} {sizes : code.Tree} {s : List ℕ} {x serving n : ℕ} {member : Bool} {at : ℕ} {rows : List ℕ}
+    (r : NodeToWalk file allows sizes s x serving n member at rows) where
   pub node-stands : HasNode s x
   node-stands = table-has-node (r .table) (r .node .served .node)
 
   pub node-small : x < mostNodes
   node-small = omega (arith, r .node .served .node, table-sound (r .table) .few)
 
-  attained : let u = takesNode (treeOf file) (demandOf file) x serving n in
-      (one x u ≤ n) × (bestAt (treeOf file) (demandOf file) (firstChild (treeOf file) x) (cond u x serving) (n - one x u) < cap)
-  attained = children-attained (treeOf file) (demandOf file) x serving n (r .node .attained)
+  attained : let u = takesNode (treeOf file) (demandOf file) allows x serving n in
+      (one x u ≤ n) × (bestAt (treeOf file) (demandOf file) allows (firstChild (treeOf file) x) (cond u x serving) (n - one x u) < cap)
+  attained = children-attained (treeOf file) (demandOf file) allows x serving n (r .node .attained)
 
   module _ {child : ℕ} (e : child ≡ wordOf s x childWord) where
     below-is : child ≡ firstChild (treeOf file) x
@@ -65,7 +65,7 @@ module _ {file : List ℕ} {sizes : code.Tree} {s : List ℕ} {x serving n : ℕ
       pub member-some : 0 < n
       member-some = rw (sym (r .own) ∙ m) at attained .0
 
-      pub member-row : RowToWalk file sizes s child x (n - 1) (at + 1) (set rows at x)
+      pub member-row : RowToWalk file allows sizes s child x (n - 1) (at + 1) (set rows at x)
       member-row = rw below-is (record {
         table = r .table;
         row = record {
@@ -76,14 +76,14 @@ module _ {file : List ℕ} {sizes : code.Tree} {s : List ℕ} {x serving n : ℕ
         room = simp length-set (omega (arith, r .room, member-some));
       })
 
-      pub member-stores : sets (set rows at x) (at + 1) (bestNodes (treeOf file) (demandOf file) child x (n - 1))
-          ≡ sets rows at (nodesFrom (treeOf file) (demandOf file) x serving n)
+      pub member-stores : sets (set rows at x) (at + 1) (bestNodes (treeOf file) (demandOf file) allows child x (n - 1))
+          ≡ sets rows at (nodesFrom (treeOf file) (demandOf file) allows x serving n)
       unfolding nodesFrom
       member-stores = rw (sym (r .own) ∙ m, below-is, add-one at)
 
     -- it is none: all among its children
     module _ (m : member ≡ false) where
-      pub other-row : RowToWalk file sizes s child serving n at rows
+      pub other-row : RowToWalk file allows sizes s child serving n at rows
       other-row = rw below-is (record {
         table = r .table;
         row = record {
@@ -94,33 +94,33 @@ module _ {file : List ℕ} {sizes : code.Tree} {s : List ℕ} {x serving n : ℕ
         room = r .room;
       })
 
-      pub other-stores : sets rows at (bestNodes (treeOf file) (demandOf file) child serving n)
-          ≡ sets rows at (nodesFrom (treeOf file) (demandOf file) x serving n)
+      pub other-stores : sets rows at (bestNodes (treeOf file) (demandOf file) allows child serving n)
+          ≡ sets rows at (nodesFrom (treeOf file) (demandOf file) allows x serving n)
       unfolding nodesFrom
       other-stores = rw (sym (r .own) ∙ m, below-is, sub-zero)
 
 -- ---- at a row with m caches
 
-module _ {file : List ℕ} {sizes : code.Tree} {s : List ℕ} {serving first count start : ℕ} {old : List ℕ} where
-  pub walk-begins : RowToWalk file sizes s first serving count start old
-      → Walked file sizes s serving first count start old first count start old
+module _ {file : List ℕ} {allows : ℕ → Bool → Bool} {sizes : code.Tree} {s : List ℕ} {serving first count start : ℕ} {old : List ℕ} where
+  pub walk-begins : RowToWalk file allows sizes s first serving count start old
+      → Walked file allows sizes s serving first count start old first count start old
   walk-begins h = record { here = h; left = refl; smaller = le-refl _; long = refl; stores = refl }
 
-  module _ {x m at : ℕ} {new : List ℕ} (w : Walked file sizes s serving first count start old x m at new) where
-    pub walk-ends : m ≤ 0 → (at ≡ start + count) × (new ≡ sets old start (bestNodes (treeOf file) (demandOf file) first serving count))
+  module _ {x m at : ℕ} {new : List ℕ} (w : Walked file allows sizes s serving first count start old x m at new) where
+    pub walk-ends : m ≤ 0 → (at ≡ start + count) × (new ≡ sets old start (bestNodes (treeOf file) (demandOf file) allows first serving count))
     walk-ends h =
         let none : m ≡ 0 = omega arith in
         let row = rw none at (w .here .row .attained) in
-        (omega (arith, w .left), rw (none, row-without (treeOf file) (demandOf file) x serving row) at (w .stores))
+        (omega (arith, w .left), rw (none, row-without (treeOf file) (demandOf file) allows x serving row) at (w .stores))
 
     module _ (some : 0 < m) where
-      row : RowHas file x serving m
+      row : RowHas file allows x serving m
       row = w .here .row
 
       walked-site : 0 < x
-      walked-site = row-has-node (treeOf file) (demandOf file) x serving m some (row .attained)
+      walked-site = row-has-node (treeOf file) (demandOf file) allows x serving m some (row .attained)
 
-      pub walked-row : RowToSplit file sizes s x serving m
+      pub walked-row : RowToSplit file allows sizes s x serving m
       walked-row = record { table = w .here .table; site = walked-site; row = row }
 
       pub walked-stands : HasNode s x
@@ -141,16 +141,16 @@ module _ {file : List ℕ} {sizes : code.Tree} {s : List ℕ} {serving first cou
           → rowSize (rowAt (treeOf file) next) < rowSize (rowAt (treeOf file) x)
       siblings-smaller f = rw (sibling-is f) (omega (arith, row-shrinks))
 
-      module _ {later : ℕ} (e : later ≡ laterAt (treeOf file) (demandOf file) x serving m) where
+      module _ {later : ℕ} (e : later ≡ laterAt (treeOf file) (demandOf file) allows x serving m) where
         walked-later : later ≤ m
-        walked-later = rw e (later-within (treeOf file) (demandOf file) x serving m walked-site (row .served .node) (row .attained))
+        walked-later = rw e (later-within (treeOf file) (demandOf file) allows x serving m walked-site (row .served .node) (row .attained))
 
-        both-attained : (nodeBestAt (treeOf file) (demandOf file) x serving (m - later) < cap)
-            × (bestAt (treeOf file) (demandOf file) (nextSibling (treeOf file) x) serving later < cap)
-        both-attained = rw e (row-attained (treeOf file) (demandOf file) x serving m walked-site (row .served .node) (row .attained))
+        both-attained : (nodeBestAt (treeOf file) (demandOf file) allows x serving (m - later) < cap)
+            × (bestAt (treeOf file) (demandOf file) allows (nextSibling (treeOf file) x) serving later < cap)
+        both-attained = rw e (row-attained (treeOf file) (demandOf file) allows x serving m walked-site (row .served .node) (row .attained))
 
-        pub walked-node : {member : Bool} → member ≡ takesNode (treeOf file) (demandOf file) x serving (m - later)
-            → NodeToWalk file sizes s x serving (m - later) member at new
+        pub walked-node : {member : Bool} → member ≡ takesNode (treeOf file) (demandOf file) allows x serving (m - later)
+            → NodeToWalk file allows sizes s x serving (m - later) member at new
         walked-node u = record {
           table = w .here .table;
           node = record {
@@ -164,8 +164,8 @@ module _ {file : List ℕ} {sizes : code.Tree} {s : List ℕ} {serving first cou
         }
 
         pub walk-turns : {end next : ℕ} {l : List ℕ} → next ≡ wordOf s x siblingWord → end ≡ at + (m - later)
-            → l ≡ sets new at (nodesFrom (treeOf file) (demandOf file) x serving (m - later)) → length l ≡ length new
-            → Walked file sizes s serving first count start old next later end l
+            → l ≡ sets new at (nodesFrom (treeOf file) (demandOf file) allows x serving (m - later)) → length l ≡ length new
+            → Walked file allows sizes s serving first count start old next later end l
         walk-turns f g k long =
             let t = treeOf file in
             let d = demandOf file in
@@ -182,14 +182,14 @@ module _ {file : List ℕ} {sizes : code.Tree} {s : List ℕ} {serving first cou
               left = omega (arith, walked-later, w .left);
               smaller = omega (arith, row-shrinks, w .smaller);
               long = long ∙ w .long;
-              stores = rw (k, g, e) (sym (row-stores t d x serving m walked-site (row .served .node) (row .attained) new at) ∙ w .stores);
+              stores = rw (k, g, e) (sym (row-stores t d allows x serving m walked-site (row .served .node) (row .attained) new at) ∙ w .stores);
             })
 
         -- all are among the later siblings
         pub walk-passes : {next : ℕ} → next ≡ wordOf s x siblingWord → m ≤ later
-            → Walked file sizes s serving first count start old next m at new
+            → Walked file allows sizes s serving first count start old next m at new
         walk-passes f all =
             let same : later ≡ m = omega (arith, walked-later) in
             let none : m - later ≡ 0 = omega arith in
-            let here = node-without (treeOf file) (demandOf file) x serving (rw none at (both-attained .0)) in
+            let here = node-without (treeOf file) (demandOf file) allows x serving (rw none at (both-attained .0)) in
             rw same at (walk-turns {end = at} {l = new} f (omega arith) (rw (none, here)) refl)

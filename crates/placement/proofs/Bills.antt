@@ -10,19 +10,26 @@ use Rattle.laws.proofs.Stores.{sets-front}
 use Rattle.model.specs.File.{treeOf, countOf}
 use Rattle.model.specs.Rules.{passed, broken, fileVerdict, ascends, isSet}
 use Rattle.model.specs.Calls.{answered, refused, BillMemory, billVerdict, servingNodes, linkLoads, BillCall}
-use Rattle.model.proofs.Accepted.{accepted-header, accepted-sound}
+use Rattle.model.proofs.Accepted.{accepted-sound}
+use Rattle.model.proofs.Ascending.{set-told}
 use Rattle.model.proofs.Written.{length-serving-nodes, length-link-loads}
+use Rattle.tree_file.proofs.Accepted.{accepted-long, accepted-in-file}
 use Rattle.placement.specs.Passes.{AcceptedFile, Billable, Walkable}
 use Rattle.placement.specs.Answers.{BillWritten}
 
 -- an accepted file, its n read from the header
 accepted-file : (file : List ℕ) {n : ℕ} → passed ≡ fileVerdict file → n ≡ countOf file → AcceptedFile file n
 accepted-file file ok nodes =
-    record { sound = accepted-sound file (sym ok); exact = omega (arith, accepted-header file (sym ok) .exact); nodes = nodes }
+    record {
+      sound = accepted-sound file (sym ok);
+      nodes = nodes;
+      header = accepted-long file (sym ok);
+      records = λ v h. accepted-in-file file (sym ok) v (omega arith);
+    }
 
 -- a set of its nodes
 pub set-of-file : (file k : List ℕ) {n : ℕ} → passed ≡ fileVerdict file → n ≡ countOf file → ascends 0 n k ≡ true → Billable file n k
-set-of-file file k ok nodes is-set = record { ofFile = accepted-file file ok nodes; ofNodes = rw nodes at is-set }
+set-of-file file k ok nodes is-set = record { ofFile = accepted-file file ok nodes; ofNodes = set-told (treeOf file) k nodes is-set }
 
 module _ (file k : List ℕ) (memory : BillMemory) where
   bill-refused : {q i : ℕ} → billVerdict file k memory ≡ broken q i → BillCall file k memory (refused q i) memory
@@ -37,11 +44,11 @@ module _ (file k : List ℕ) (memory : BillMemory) where
     -- rule 12
     pub bill-refused-set : ascends 0 n k ≡ false → BillCall file k memory (refused 12 0) memory
     unfolding billVerdict
-    bill-refused-set e = bill-refused (rw (sym ok, rw nodes at e))
+    bill-refused-set e = bill-refused (rw (sym ok, set-told (treeOf file) k nodes e))
 
     module _ (is-set : ascends 0 n k ≡ true) where
       in-tree : isSet (treeOf file) k ≡ true
-      in-tree = rw nodes at is-set
+      in-tree = set-told (treeOf file) k nodes is-set
 
       -- rule 14
       pub bill-refused-servings : length (memory .servings) < n → BillCall file k memory (refused 14 0) memory

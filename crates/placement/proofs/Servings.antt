@@ -15,13 +15,14 @@ use Rattle.laws.proofs.Stores.{loop-turns}
 use Rattle.laws.proofs.Ranges.{entry-stored}
 use Rattle.laws.proofs.Counts.{bit-le}
 use Rattle.model.specs.File.{Tree, treeOf, demandOf, mostNodes}
-use Rattle.model.specs.Rules.{isSet}
+use Rattle.model.specs.Rules.{ascends}
 use Rattle.model.specs.Bill.{serving}
 use Rattle.model.specs.Calls.{servingNodes}
 use Rattle.model.specs.Preorder.{Preorder}
 use Rattle.model.specs.Accepted.{Sound}
 use Rattle.model.proofs.Routes.{parent-before, by-route}
 use Rattle.model.proofs.Intervals.{parent-earlier}
+use Rattle.model.proofs.Ascending.{set-ascends}
 use Rattle.model.proofs.Nearest.{serving-server, serving-up}
 use Rattle.placement.specs.Passes.{Billable, Serving}
 use Rattle.placement.proofs.Members.{set-size, cursor-bound, cursor-begins, cursor-turns}
@@ -56,8 +57,8 @@ module _ (file k : List ℕ) (n : ℕ) (given : Billable file n k) where
   all-nodes : n ≡ t .count
   all-nodes = given .ofFile .nodes
 
-  in-tree : isSet t k ≡ true
-  in-tree = given .ofNodes
+  in-tree : ascends 0 (t .count) k ≡ true
+  in-tree = set-ascends t k (given .ofNodes)
 
   pub pass-begins : (servings : List ℕ) → n ≤ length servings → Serving file n k (set servings 0 0) (set servings 0 0) 1 0
   unfolding range

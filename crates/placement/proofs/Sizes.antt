@@ -1,9 +1,8 @@
 -- Every load and sum of a walk is far below 2^64.
-use mathlib.Core.Path.{_≡_, sym}
-use Prim.Native.Nat.{ℕ, zero, suc, _*_, _-_, _≤_}
+use mathlib.Core.Path.{_≡_}
+use Prim.Native.Nat.{ℕ, zero, suc, _-_, _≤_}
 use mathlib.Core.Bool.{cond}
 use mathlib.Core.List.{List}
-use native.Mathlib.Nat.{mul-le-mul, mul-le-mul-left, mul-sub}
 use native.Mathlib.Omega.{arith}
 use Rattle.laws.specs.Lists.{range, sum, anyOf, has, those}
 use Rattle.laws.proofs.Bools.{by-test}
@@ -11,27 +10,21 @@ use Rattle.laws.proofs.Sums.{sum-le}
 use Rattle.laws.proofs.Ranges.{sum-those-le}
 use Rattle.model.specs.File.{Tree, Demand}
 use Rattle.model.specs.Tree.{route, atOrBelow}
-use Rattle.model.specs.Bill.{thousandths, upTo, clientLoad, linkLoad}
+use Rattle.model.specs.Bill.{whole, upTo, clientLoad, linkLoad}
 use Rattle.model.specs.Accepted.{Sound}
 use Rattle.model.specs.Children.{relieved, childOf}
+use Rattle.model.proofs.Amounts.{load-amounts}
+use Rattle.model.proofs.Bounds.{whole-within}
 use Rattle.placement.specs.Walks.{mostSent, mostLoad, mostOfRow, RangeWalked, NodeWalked}
 
 module _ (t : Tree) (d : Demand) (ok : Sound t d) where
-  -- a client's cachable flow is a part of its flow, and the rest is what it sends once served
-  pub cachable-part : (c : ℕ) → d .flow c * d .hit c ≤ d .flow c * thousandths
-  cachable-part c = mul-le-mul-left (d .flow c) (ok .hit c)
-
-  pub relieved-rest : (c : ℕ) → d .flow c * thousandths - d .flow c * d .hit c ≡ relieved d c
-  relieved-rest c = sym (mul-sub (d .flow c) thousandths (d .hit c))
-
   relieved-bound : (c : ℕ) → relieved d c ≤ mostSent
-  relieved-bound c = let less : thousandths - d .hit c ≤ thousandths = omega arith in mul-le-mul (ok .flow c) less
+  relieved-bound c = omega (arith, whole-within t d ok c)
 
   client-load-bound : (k : List ℕ) (v c : ℕ) → clientLoad t d k v c ≤ mostSent
-  unfolding clientLoad
   client-load-bound k v c =
-      mul-le-mul (ok .flow c)
-      (by-test (λ b. cond b (thousandths - d .hit c) thousandths ≤ thousandths) (anyOf (has k) (upTo v (route t c))) (λ _. omega arith) (λ _. omega arith))
+      rw (load-amounts d c t k v)
+      (by-test (λ b. cond b (relieved d c) (whole d c) ≤ mostSent) (anyOf (has k) (upTo v (route t c))) (λ _. relieved-bound c) (λ _. whole-within t d ok c))
 
   link-load-bound : (k : List ℕ) (v : ℕ) → linkLoad t d k v ≤ mostLoad
   unfolding linkLoad

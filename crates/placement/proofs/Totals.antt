@@ -47,4 +47,4 @@ total-of-loads t d k loads loads′ ok room written =
     let entry : (v : ℕ) → v < t .count → getD loads′ v 0 ≡ linkLoad t d k v = λ v h. rw written (entry-stored loads (linkLoad t d k) (t .count) v room h) in
     sum-same (λ u. getD loads′ u 0 * t .linkLength u) (λ u. linkLoad t d k u * t .linkLength u) (sites t)
     (λ v m. let v-in = range-bounds 1 (t .count - 1) v m in ap (λ (x : ℕ). x * t .linkLength v) (entry v (omega arith)))
-    ∙ links-total t d (ok .preorder) k (ok .server) (ok .hit)
+    ∙ links-total t d (ok .preorder) k (ok .server) (ok .part)

@@ -14,7 +14,7 @@ use Rattle.laws.proofs.Lists.{range-bounds}
 use Rattle.laws.proofs.Ranges.{range-cut, range-first, range-none, those-append, those-none, sum-append, stores-join, stores-first}
 use Rattle.model.specs.File.{Tree, Demand}
 use Rattle.model.specs.Tree.{nodes, atOrBelow}
-use Rattle.model.specs.Bill.{thousandths, linkLoad}
+use Rattle.model.specs.Bill.{whole, linkLoad}
 use Rattle.model.specs.Preorder.{Preorder}
 use Rattle.model.specs.Children.{relieved, childOf}
 use Rattle.model.proofs.Routes.{route-ends}
@@ -155,22 +155,22 @@ module _ (t : Tree) (d : Demand) (k : List ℕ) where
     -- ---- a node after the row of its children
 
     load-by-row : (v e load relief : ℕ) → 1 ≤ v → v < t .count → Ends t v (v + 1) e → load ≡ sum (linkLoad t d k) (those (childOf t v) (range (v + 1) (e - (v + 1))))
-        → relief ≡ sum (relieved d) (range v (e - v)) → cond (has k v) relief (d .flow v * thousandths + load) ≡ linkLoad t d k v
-    load-by-row v e load relief z h x below whole =
+        → relief ≡ sum (relieved d) (range v (e - v)) → cond (has k v) relief (whole d v + load) ≡ linkLoad t d k v
+    load-by-row v e load relief z h x below served =
         let far : v < e = omega (arith, x .from) in
-        by-test (λ b. has k v ≡ b → cond b relief (d .flow v * thousandths + load) ≡ linkLoad t d k v) (has k v)
-        (λ _ m. whole ∙ sym (rw (← subtree-is-range t pre v e far (x .inFile) (λ c a. x .within c (omega arith)) (x .beyond)) (load-above-member t d k v z m)))
+        by-test (λ b. has k v ≡ b → cond b relief (whole d v + load) ≡ linkLoad t d k v) (has k v)
+        (λ _ m. served ∙ sym (rw (← subtree-is-range t pre v e far (x .inFile) (λ c a. x .within c (omega arith)) (x .beyond)) (load-above-member t d k v z m)))
         (λ _ m. omega (arith, load-above-other t d k pre v z m h, ap (sum (linkLoad t d k)) (children-in-subtree t pre v e far (x .inFile) (x .beyond))))
         refl
 
     -- the load above v by whether v is a member, stored at v
     pub node-walked : {loads loads′ : List ℕ} {v e load relief : ℕ} → 1 ≤ v → v < t .count
-        → RowWalked t d k loads v (v + 1) e load relief loads′ → (member : Bool) (above whole : ℕ) → member ≡ has k v
-        → whole ≡ relieved d v + relief → above ≡ cond member whole (d .flow v * thousandths + load)
-        → NodeWalked t d k loads v e above whole (set loads′ v above)
-    node-walked {v = v} {e = e} {load = load} z h w member above whole is-member q p =
+        → RowWalked t d k loads v (v + 1) e load relief loads′ → (member : Bool) (above served : ℕ) → member ≡ has k v
+        → served ≡ relieved d v + relief → above ≡ cond member served (whole d v + load)
+        → NodeWalked t d k loads v e above served (set loads′ v above)
+    node-walked {v = v} {e = e} {load = load} z h w member above served is-member q p =
         let first = walked-first (omega (arith, w .ends .from)) (w .walked) in
-        let is : above ≡ linkLoad t d k v = rw is-member at p ∙ load-by-row v e load whole z h (w .ends) (w .loadsAbove) (q ∙ first .relieves) in
+        let is : above ≡ linkLoad t d k v = rw is-member at p ∙ load-by-row v e load served z h (w .ends) (w .loadsAbove) (q ∙ first .relieves) in
         record { ends = w .ends; loadAbove = is; walked = rw (is, q) first }
 
     -- ---- all nodes: the row of the server's children, then load 0 stored at node 0

@@ -13,7 +13,7 @@ use Rattle.model.specs.File.{Tree, Demand, treeOf, demandOf}
 use Rattle.model.specs.Bill.{serving, total, totalLimit}
 use Rattle.model.specs.Calls.{servingNodes, linkLoads}
 use Rattle.model.specs.Accepted.{Sound}
-use Rattle.model.proofs.Ascending.{ascends-range, ascends-those, same-members}
+use Rattle.model.proofs.Ascending.{ascends-range, ascends-those, same-members, set-ascends}
 use Rattle.model.proofs.Bounds.{total-bound}
 use Rattle.placement.specs.Passes.{selfServing, totalBefore, Billable, Walkable}
 use Rattle.placement.specs.Walks.{RowWalked}
@@ -41,7 +41,7 @@ module _ {file k servings loads : List ℕ} {n : ℕ} (given : Billable file n k
         let all = given .ofFile .nodes in
         let entry : (v : ℕ) → v < t .count → getD servings′ v 0 ≡ serving t k v =
         λ v h. rw servings-are (entry-stored servings (serving t k) (t .count) v (omega (arith, room .servingsLong)) h) in
-        same-members n 0 (selfServing n servings′) k (ascends-those n _ 0 (range 1 (n - 1)) (ascends-range n 0 (n - 1) (omega arith))) (rw all (given .ofNodes))
+        same-members n 0 (selfServing n servings′) k (ascends-those n _ 0 (range 1 (n - 1)) (ascends-range n 0 (n - 1) (omega arith))) (rw all (set-ascends t k (given .ofNodes)))
         (λ v z h. sym (self-serving-member n servings′ v z h) ∙ ap (λ (x : ℕ). eqb x v) (entry v (omega arith)) ∙ member-by-serving t (sound .preorder) k v z)
 
     pub servings-walkable : length servings′ ≡ length servings → Walkable file n servings′ loads

@@ -2,21 +2,24 @@
 use mathlib.Core.Path.{_≡_}
 use mathlib.Core.Bool.{true}
 use mathlib.Core.List.{List, map}
-use Prim.Native.Nat.{ℕ, _*_, _-_, _≤_}
+use Prim.Native.Nat.{ℕ, _*_, _-_, _≤_, _<_}
 use lib.Dec.{ltb, eqb}
 use lib.ListN.{length, getD}
 use lib.Seq.{sets}
 use Rattle.laws.specs.Lists.{range, sum, howMany, those}
-use Rattle.model.specs.File.{Tree, treeOf, demandOf, countOf, recordAt}
+use Rattle.model.specs.File.{Tree, headerLength, treeOf, demandOf, countOf}
 use Rattle.model.specs.Rules.{isSet}
 use Rattle.model.specs.Bill.{serving}
 use Rattle.model.specs.Accepted.{Sound}
+use Rattle.fields.specs.Table.{InFile}
 
 -- what an accepted file of n nodes allows
 pub record AcceptedFile (file : List ℕ) (n : ℕ) : Type 0 where
   pub sound : Sound (treeOf file) (demandOf file)
-  pub exact : length file ≡ recordAt n
   pub nodes : n ≡ countOf file
+  -- its header and each record can be read
+  pub header : headerLength ≤ length file
+  pub records : (v : ℕ) → v < n → InFile file v
 
 -- and a set of its nodes
 pub record Billable (file : List ℕ) (n : ℕ) (set : List ℕ) : Type 0 where

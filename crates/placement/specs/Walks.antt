@@ -7,7 +7,7 @@ use lib.Seq.{sets}
 use Rattle.laws.specs.Lists.{range, sum, those}
 use Rattle.model.specs.File.{Tree, Demand, mostNodes, mostFlow}
 use Rattle.model.specs.Tree.{atOrBelow}
-use Rattle.model.specs.Bill.{thousandths, linkLoad}
+use Rattle.model.specs.Bill.{thousandths, whole, linkLoad}
 use Rattle.model.specs.Children.{relieved, childOf}
 
 -- what a client can send over a link, what a link can carry, and what the loads of a row can add up to
@@ -66,6 +66,6 @@ pub record Bounded (load relief : ℕ) : Type 0 where
 
 -- node v after the row of its children: what all clients at or below it send once served, which is the load above a member;
 -- above another node, its own flow and the loads above its children
-pub record Raised (d : Demand) (member : Bool) (v below relief above whole : ℕ) : Type 0 where
-  pub relieves : whole ≡ relieved d v + relief
-  pub loadAbove : above ≡ cond member whole (d .flow v * thousandths + below)
+pub record Raised (d : Demand) (member : Bool) (v below relief above served : ℕ) : Type 0 where
+  pub relieves : served ≡ relieved d v + relief
+  pub loadAbove : above ≡ cond member served (whole d v + below)

@@ -1,5 +1,6 @@
 -- Laws of how the table is filled: before the first line, one line more, one node more, and the whole table.
 use mathlib.Core.Path.{_≡_, refl, sym, ap, _∙_}
+use mathlib.Core.Bool.{Bool}
 use mathlib.Core.List.{List, map}
 use mathlib.Core.Logic.{inl, inr, ⊎-elim}
 use Prim.Native.Nat.{ℕ, _+_, _*_, _-_, _≤_, _<_}
@@ -23,6 +24,16 @@ use Rattle.table.proofs.Places.{stored-line, other-line, words-stay, be
 use Rattle.table.proofs.Lines.{length-line-for, line-for-empty}
 use Rattle.table.proofs.Room.{room-count, room-end, room-long, room-depth, room-kept, stored-same}
 
+-- ---- the words before the lines
+
+module _ {file : List ℕ} {sizes : code.Tree} where
+  pub words-stored : {s l : List ℕ} → TableRoom file sizes s → NodeWords (treeOf file) l → FrontOnly (nodeWords * sizes .nodes) s l → NodeWordsStored file sizes l
+  words-stored r w f = record { room = room-kept r (f .long); words = w }
+
+  pub words-front : {s l : List ℕ} → TableRoom file sizes s → FrontOnly (nodeWords * sizes .nodes) s l → FrontOnly (scratchWords file) s l
+  unfolding tableEnd
+  words-front r f = front-only-wider (omega (arith, room-end r)) f
+
 -- ---- the empty row's lines
 
 module _ (sizes : code.Tree) where
@@ -44,9 +55,9 @@ module _ (sizes : code.Tree) where
         front = front-only-then _ (so .front) (behind-stays sizes r new 0 a long some h);
       })
 
-module _ {file : List ℕ} {sizes : code.Tree} where
+module _ {file : List ℕ} {allows : ℕ → Bool → Bool} {sizes : code.Tree} where
   -- with them the table is filled as far as the last node
-  pub table-begins : {s l : List ℕ} → NodeWordsStored file sizes s → EmptyTo sizes (sizes .height + 1) s l → LinesFilled file sizes (lineNumber sizes (sizes .nodes) 0) s l
+  pub table-begins : {s l : List ℕ} → NodeWordsStored file sizes s → EmptyTo sizes (sizes .height + 1) s l → LinesFilled file allows sizes (lineNumber sizes (sizes .nodes) 0) s l
   unfolding FilledFrom
   table-begins {s} {l} r so = record {
     table = record {
@@ -54,23 +65,23 @@ module _ {file : List ℕ} {sizes : code.Tree} where
       lines = λ x a h k _ later.
           let none : x ≡ 0 =
           ⊎-elim (λ z. z) (λ g. let last : a < sizes .height + 1 = omega arith in absurd (omega (arith, row-within h last))) later in
-          rw none (so .lines a (omega arith) ∙ sym (line-for-empty (treeOf file) (demandOf file) (width sizes) a));
+          rw none (so .lines a (omega arith) ∙ sym (line-for-empty (treeOf file) (demandOf file) allows (width sizes) a));
     };
     front = rw (room-end (r .room)) (so .front);
   }
 
   -- ---- one line more
 
-  pub next-line : (v : ℕ) {a : ℕ} {s : List ℕ} → 0 < a → TableFrom file sizes s (lineNumber sizes v a) → TableFrom file sizes s (lineNumber sizes v (a - 1) + 1)
+  pub next-line : (v : ℕ) {a : ℕ} {s : List ℕ} → 0 < a → TableFrom file allows sizes s (lineNumber sizes v a) → TableFrom file allows sizes s (lineNumber sizes v (a - 1) + 1)
   next-line v {a} h r = let e : lineNumber sizes v (a - 1) + 1 ≡ lineNumber sizes v a = omega arith in rw e r
 
-  pub line-filled : {v a u : ℕ} {s l : List ℕ} → TableFrom file sizes s (lineNumber sizes v a + 1) → Served (treeOf file) v a u
-      → l ≡ sets s (lineAt sizes v a) (lineFor (treeOf file) (demandOf file) (width sizes) v a) → LinesFilled file sizes (lineNumber sizes v a) s l
+  pub line-filled : {v a u : ℕ} {s l : List ℕ} → TableFrom file allows sizes s (lineNumber sizes v a + 1) → Served (treeOf file) v a u
+      → l ≡ sets s (lineAt sizes v a) (lineFor (treeOf file) (demandOf file) allows (width sizes) v a) → LinesFilled file allows sizes (lineNumber sizes v a) s l
   unfolding FilledFrom
   line-filled {v} {a} {u} {s} {l} r at e =
       let room = r .stored .room in
-      let new = lineFor (treeOf file) (demandOf file) (width sizes) v a in
-      let long = length-line-for (treeOf file) (demandOf file) (width sizes) v a in
+      let new = lineFor (treeOf file) (demandOf file) allows (width sizes) v a in
+      let long = length-line-for (treeOf file) (demandOf file) allows (width sizes) v a in
       let node : v < sizes .nodes = omega (arith, at .node, room-count room) in
       let above : a ≤ sizes .height = omega (arith, at .above, room-depth room node) in
       let front = behind-stays sizes s new v a long node above in
@@ -93,8 +104,8 @@ module _ {file : List ℕ} {sizes : code.Tree} where
   -- ---- one node more
 
   -- node v has no line from its depth on
-  pub node-begins : (v : ℕ) {s : List ℕ} → TableFrom file sizes s (lineNumber sizes (v + 1) 0)
-      → TableFrom file sizes s (lineNumber sizes v (depth (treeOf file) v))
+  pub node-begins : (v : ℕ) {s : List ℕ} → TableFrom file allows sizes s (lineNumber sizes (v + 1) 0)
+      → TableFrom file allows sizes s (lineNumber sizes v (depth (treeOf file) v))
   unfolding FilledFrom
   node-begins v {s} r = record {
     stored = r .stored;
@@ -111,11 +122,11 @@ module _ {file : List ℕ} {sizes : code.Tree} where
         ]) has) later);
   }
 
-  pub next-node : {v : ℕ} {s : List ℕ} → 0 < v → TableFrom file sizes s (lineNumber sizes v 0) → TableFrom file sizes s (lineNumber sizes (v - 1 + 1) 0)
+  pub next-node : {v : ℕ} {s : List ℕ} → 0 < v → TableFrom file allows sizes s (lineNumber sizes v 0) → TableFrom file allows sizes s (lineNumber sizes (v - 1 + 1) 0)
   next-node {v} h r = let e : v - 1 + 1 ≡ v = omega arith in rw e r
 
   -- node 1 is the first that has a line
-  pub table-whole : {s l : List ℕ} → LinesFilled file sizes (lineNumber sizes 1 0) s l → LinesFilled file sizes 0 s l
+  pub table-whole : {s l : List ℕ} → LinesFilled file allows sizes (lineNumber sizes 1 0) s l → LinesFilled file allows sizes 0 s l
   unfolding FilledFrom
   table-whole {s} {l} m = record {
     table = record {
@@ -130,19 +141,10 @@ module _ {file : List ℕ} {sizes : code.Tree} where
     front = m .front;
   }
 
-  -- ---- the words before it
-
-  pub words-stored : {s l : List ℕ} → TableRoom file sizes s → NodeWords (treeOf file) l → FrontOnly (nodeWords * sizes .nodes) s l → NodeWordsStored file sizes l
-  words-stored r w f = record { room = room-kept r (f .long); words = w }
-
-  pub words-front : {s l : List ℕ} → TableRoom file sizes s → FrontOnly (nodeWords * sizes .nodes) s l → FrontOnly (scratchWords file) s l
-  unfolding tableEnd
-  words-front r f = front-only-wider (omega (arith, room-end r)) f
-
   -- ---- one after the other
 
-  pub filled-none : {i : ℕ} {s : List ℕ} → TableFrom file sizes s i → LinesFilled file sizes i s s
+  pub filled-none : {i : ℕ} {s : List ℕ} → TableFrom file allows sizes s i → LinesFilled file allows sizes i s s
   filled-none r = record { table = r; front = front-only-none _ _ }
 
-  pub filled-then : {i j : ℕ} {s r l : List ℕ} → LinesFilled file sizes i s r → LinesFilled file sizes j r l → LinesFilled file sizes j s l
+  pub filled-then : {i j : ℕ} {s r l : List ℕ} → LinesFilled file allows sizes i s r → LinesFilled file allows sizes j r l → LinesFilled file allows sizes j s l
   filled-then m n = record { table = n .table; front = front-only-then _ (m .front) (n .front) }

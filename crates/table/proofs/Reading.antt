@@ -1,5 +1,6 @@
 -- What a table says at a node: the lines of its children and of its later siblings hold the least costs of their rows.
 use mathlib.Core.Path.{_≡_, _∙_}
+use mathlib.Core.Bool.{Bool}
 use mathlib.Core.List.{List, map}
 use mathlib.Core.Logic.{inl, inr, ⊎-elim}
 use Prim.Native.Nat.{ℕ, _+_, _≤_, _<_}
@@ -13,7 +14,7 @@ use Rattle.model.specs.Tree.{depth}
 use Rattle.fields.specs.declared.Tree as code
 use Rattle.model.specs.Preorder.{Preorder}
 use Rattle.best_rows.specs.TreeRows.{firstChild, nextSibling, NoneOrChild}
-use Rattle.best_rows.specs.BestAt.{bestAt, childrenAt}
+use Rattle.best_rows.specs.BestAt.{bestAt, childrenAt, siblingsAt}
 use Rattle.best_rows.proofs.TreeRows.{first-child-stands, next-sibling-stands}
 use Rattle.best_rows.proofs.Cover.{row-size-within}
 use Rattle.node_words.specs.Words.{HasNode, wordOf, depthWord, childWord, siblingWord}
@@ -27,7 +28,7 @@ use Rattle.table.proofs.Places.{line-within}
 use Rattle.table.proofs.Lines.{line-under, bounds-read}
 use Rattle.table.proofs.Room.{room-sound, room-count, in-tree, room-long, room-place, room-depth, stored-node, stored-client}
 
-module _ {file : List ℕ} {sizes : code.Tree} {s : List ℕ} {i : ℕ} (r : TableFrom file sizes s i) where
+module _ {file : List ℕ} {allows : ℕ → Bool → Bool} {sizes : code.Tree} {s : List ℕ} {i : ℕ} (r : TableFrom file allows sizes s i) where
   -- ---- where the line of a row stands
 
   row-place : (v p c b : ℕ) → NoneOrChild (treeOf file) v p c → b ≤ sizes .height → InTable sizes c b × (tableEnd sizes ≤ length s)
@@ -46,17 +47,17 @@ module _ {file : List ℕ} {sizes : code.Tree} {s : List ℕ} {i : ℕ} (r : Tab
   -- the line of a row of children of p after v, where u is their ancestor at depth a
   row-line : (v p c a u : ℕ) → a ≤ sizes .height → i ≤ lineNumber sizes (v + 1) 0 → NoneOrChild (treeOf file) v p c
       → (0 < c → treeOf file .parent c ≡ p → (a < depth (treeOf file) c) × (ancestorAt (treeOf file) c a ≡ u))
-      → lineIn sizes s c a ≡ map (bestAt (treeOf file) (demandOf file) c u) (range 0 (width sizes))
+      → lineIn sizes s c a ≡ map (bestAt (treeOf file) (demandOf file) allows c u) (range 0 (width sizes))
   unfolding FilledFrom
   row-line v p c a u h k (inl e) f =
       r .lines c a (omega (arith, room-count (r .stored .room), room-sound (r .stored .room) .some)) h (inl e) (inl e)
-      ∙ line-under (treeOf file) (demandOf file) (width sizes) c a u (inl e)
+      ∙ line-under (treeOf file) (demandOf file) allows (width sizes) c a u (inl e)
   row-line v p c a u h k (inr g) f =
       let m = f (omega arith) (g .2) in
       let later : v < c = g .0 in
       r .lines c a (omega (arith, room-count (r .stored .room))) h (inr (m .0))
       (inr (omega (arith, row-before (sizes .height + 1) later)))
-      ∙ line-under (treeOf file) (demandOf file) (width sizes) c a u (inr (m .1))
+      ∙ line-under (treeOf file) (demandOf file) allows (width sizes) c a u (inr (m .1))
 
   module _ (v : ℕ) (node : v < countOf file) (before : i ≤ lineNumber sizes (v + 1) 0) where
     pre : Preorder (treeOf file)
@@ -65,7 +66,7 @@ module _ {file : List ℕ} {sizes : code.Tree} {s : List ℕ} {i : ℕ} (r : Tab
     -- the children of v under the ancestor of v at depth a, v itself at its own depth
     children-line : (a : ℕ) → a ≤ depth (treeOf file) v
         → lineIn sizes s (firstChild (treeOf file) v) a
-        ≡ map (bestAt (treeOf file) (demandOf file) (firstChild (treeOf file) v) (ancestorAt (treeOf file) v a)) (range 0 (width sizes))
+        ≡ map (bestAt (treeOf file) (demandOf file) allows (firstChild (treeOf file) v) (ancestorAt (treeOf file) v a)) (range 0 (width sizes))
     children-line a h =
         let t = treeOf file in
         let deep = room-depth (r .stored .room) {v = v} (omega (arith, room-count (r .stored .room))) in
@@ -75,7 +76,7 @@ module _ {file : List ℕ} {sizes : code.Tree} {s : List ℕ} {i : ℕ} (r : Tab
     -- the later siblings of v under it
     siblings-line : (a : ℕ) → 0 < v → a < depth (treeOf file) v
         → lineIn sizes s (nextSibling (treeOf file) v) a
-        ≡ map (bestAt (treeOf file) (demandOf file) (nextSibling (treeOf file) v) (ancestorAt (treeOf file) v a)) (range 0 (width sizes))
+        ≡ map (bestAt (treeOf file) (demandOf file) allows (nextSibling (treeOf file) v) (ancestorAt (treeOf file) v a)) (range 0 (width sizes))
     siblings-line a site h =
         let t = treeOf file in
         let deep = room-depth (r .stored .room) {v = v} (omega (arith, room-count (r .stored .room))) in
@@ -147,8 +148,7 @@ module _ {file : List ℕ} {sizes : code.Tree} {s : List ℕ} {i : ℕ} (r : Tab
     pub lines-hold-best : {child sibling deep : ℕ} {cached uncached rest : List ℕ}
         → i ≤ lineNumber sizes (v + 1) 0 → child ≡ wordOf s v childWord → sibling ≡ wordOf s v siblingWord → deep ≡ wordOf s v depthWord
         → cached ≡ lineIn sizes s child deep → uncached ≡ lineIn sizes s child a → rest ≡ lineIn sizes s sibling a
-        → LinesHoldBest (width sizes) (childrenAt (treeOf file) (demandOf file) v u)
-        (bestAt (treeOf file) (demandOf file) (nextSibling (treeOf file) v) u) cached uncached rest
+        → LinesHoldBest (width sizes) (childrenAt (treeOf file) (demandOf file) allows v u) (siblingsAt (treeOf file) (demandOf file) allows v u) cached uncached rest
     lines-hold-best before c b e x y z =
         let t = treeOf file in
         let words = r .stored .words in
@@ -162,20 +162,19 @@ module _ {file : List ℕ} {sizes : code.Tree} {s : List ℕ} {i : ℕ} (r : Tab
 
     -- how many caches fit in these rows
     pub lines-bounded : {child sibling n : ℕ} {cached uncached rest counts : List ℕ}
-        → LinesHoldBest (width sizes) (childrenAt (treeOf file) (demandOf file) v u)
-        (bestAt (treeOf file) (demandOf file) (nextSibling (treeOf file) v) u) cached uncached rest
+        → LinesHoldBest (width sizes) (childrenAt (treeOf file) (demandOf file) allows v u) (siblingsAt (treeOf file) (demandOf file) allows v u) cached uncached rest
         → RowNodes (treeOf file) counts → child ≡ wordOf s v childWord → sibling ≡ wordOf s v siblingWord → n ≡ width sizes
         → RowBounds n cached uncached rest (getD counts child 0) (getD counts sibling 0)
     lines-bounded held rows c b e =
         let words = r .stored .words in
         let first = children-place c .0 .node in
         let next = siblings-place b .0 .node in
-        bounds-read (treeOf file) (demandOf file) (width sizes) at held e
+        bounds-read (treeOf file) (demandOf file) allows (width sizes) at held e
         (rows .size _ (in-tree (r .stored .room) first) ∙ rw (c, words .child v (at .node)))
         (rows .size _ (in-tree (r .stored .room) next) ∙ rw (b, words .sibling v (at .site) (at .node)))
         (row-few rows first, row-few rows next)
 
 -- the line after (v, a) is none after those of v
-pub next-before : {file : List ℕ} {sizes : code.Tree} {s : List ℕ} {v a u i : ℕ} → TableFrom file sizes s i → Served (treeOf file) v a u
+pub next-before : {file : List ℕ} {allows : ℕ → Bool → Bool} {sizes : code.Tree} {s : List ℕ} {v a u i : ℕ} → TableFrom file allows sizes s i → Served (treeOf file) v a u
     → lineNumber sizes v a + 1 ≤ lineNumber sizes (v + 1) 0
 next-before r at = omega (arith, served-above r at)

@@ -1,5 +1,6 @@
 -- Where the lines of the plan's table stand in the scratch, behind the words of the nodes, and what they hold.
 use mathlib.Core.Path.{_≡_}
+use mathlib.Core.Bool.{Bool}
 use mathlib.Core.List.{List, map}
 use mathlib.Core.Logic.{_⊎_}
 use Prim.Native.Nat.{ℕ, _+_, _*_, _≤_, _<_}
@@ -48,20 +49,20 @@ lineIn sizes s x a = part s (lineAt sizes x a) (width sizes)
 
 -- ---- what the lines hold
 
--- for each number of caches the least cost of the row that begins with x, where x's ancestor at depth a is the serving node.
--- Node 0 stands for the empty row.
-unfoldable pub lineFor : Tree → Demand → ℕ → ℕ → ℕ → List ℕ
-lineFor t d w x a = map (bestAt t d x (ancestorAt t x a)) (range 0 w)
+-- for each number of caches the least cost of the row that begins with x, where x's ancestor at depth a is the serving node
+-- and `allows` says what a node may be. Node 0 stands for the empty row.
+unfoldable pub lineFor : Tree → Demand → (ℕ → Bool → Bool) → ℕ → ℕ → ℕ → List ℕ
+lineFor t d allows w x a = map (bestAt t d allows x (ancestorAt t x a)) (range 0 w)
 
 -- the empty row has a line for every depth, a node for the depths above its own
 abbrev pub HasLine : Tree → ℕ → ℕ → Type 0
 HasLine t x a = (x ≡ 0) ⊎ (a < depth t x)
 
 -- the lines from number i on, and those of the empty row, hold their least costs
-unfoldable pub FilledFrom : Tree → Demand → code.Tree → List ℕ → ℕ → Type 0
-FilledFrom t d sizes s i =
+unfoldable pub FilledFrom : Tree → Demand → (ℕ → Bool → Bool) → code.Tree → List ℕ → ℕ → Type 0
+FilledFrom t d allows sizes s i =
     (x a : ℕ) → x < sizes .nodes → a ≤ sizes .height → HasLine t x a → (x ≡ 0) ⊎ (i ≤ lineNumber sizes x a)
-    → lineIn sizes s x a ≡ lineFor t d (width sizes) x a
+    → lineIn sizes s x a ≡ lineFor t d allows (width sizes) x a
 
 -- ---- the scratch of an accepted file
 
@@ -77,17 +78,17 @@ pub record NodeWordsStored (file : List ℕ) (sizes : code.Tree) (s : List ℕ) 
   pub words : NodeWords (treeOf file) s
 
 -- and the lines from number i on
-pub record TableFrom (file : List ℕ) (sizes : code.Tree) (s : List ℕ) (i : ℕ) : Type 0 where
+pub record TableFrom (file : List ℕ) (allows : ℕ → Bool → Bool) (sizes : code.Tree) (s : List ℕ) (i : ℕ) : Type 0 where
   pub stored : NodeWordsStored file sizes s
-  pub lines : FilledFrom (treeOf file) (demandOf file) sizes s i
+  pub lines : FilledFrom (treeOf file) (demandOf file) allows sizes s i
 
 -- all of them
-abbrev pub Table : List ℕ → code.Tree → List ℕ → Type 0
-Table file sizes s = TableFrom file sizes s 0
+abbrev pub Table : List ℕ → (ℕ → Bool → Bool) → code.Tree → List ℕ → Type 0
+Table file allows sizes s = TableFrom file allows sizes s 0
 
 -- the lines from number i on have been stored; what is behind the table and the length are as before
-pub record LinesFilled (file : List ℕ) (sizes : code.Tree) (i : ℕ) (old new : List ℕ) : Type 0 where
-  pub table : TableFrom file sizes new i
+pub record LinesFilled (file : List ℕ) (allows : ℕ → Bool → Bool) (sizes : code.Tree) (i : ℕ) (old new : List ℕ) : Type 0 where
+  pub table : TableFrom file allows sizes new i
   pub front : FrontOnly (scratchWords file) old new
 
 -- ---- at a node

@@ -11,7 +11,7 @@ use Rattle.laws.proofs.Lists.{greatest-snoc}
 use Rattle.model.specs.File.{treeOf, countOf, headerLength, mostNodes}
 use Rattle.model.specs.Tree.{depth, height}
 use Rattle.model.specs.Rules.{passed, fileVerdict}
-use Rattle.model.proofs.Accepted.{accepted-header, accepted-sound}
+use Rattle.model.proofs.Accepted.{record-before, accepted-header, accepted-sound}
 use Rattle.fields.specs.Table.{InFile}
 use Rattle.tree_file.specs.Checks.{Climbable}
 
@@ -22,7 +22,7 @@ module _ (file : List ℕ) (ok : fileVerdict file ≡ passed) where
   pub accepted-in-file : (v : ℕ) → v < countOf file → InFile file v
   accepted-in-file v h =
       let head = accepted-header file ok in
-      record { node = omega (arith, head .few); long = omega (arith, head .exact) }
+      record { node = omega (arith, head .few); long = omega (arith, head .exact, record-before file h) }
 
   pub accepted-climbable : (v : ℕ) → v < countOf file → Climbable file v
   accepted-climbable v h =

@@ -3,10 +3,11 @@ use mathlib.Core.Path.{_≡_, refl, sym, _∙_}
 use mathlib.Core.Bool.{true, false}
 use mathlib.Core.List.{List, [], _∷_}
 use Prim.Native.Nat.{ℕ, zero, suc, _≤_, _<_}
+use native.Mathlib.Nat.{mul-le-mul-left}
 use native.Mathlib.Omega.{arith}
 use Rattle.laws.specs.Lists.{has}
 use Rattle.laws.proofs.Lists.{has-head, has-other}
-use Rattle.model.specs.File.{treeOf}
+use Rattle.model.specs.File.{treeOf, recordLength}
 use Rattle.model.specs.Tree.{route}
 use Rattle.model.proofs.Routes.{route-server, parent-before-to, route-up-to}
 use Rattle.fields.specs.Table.{InFile}
@@ -21,10 +22,13 @@ module _ (file : List ℕ) (v : ℕ) where
   pub climb-begins : Climbable file v → Climbing file v v
   climb-begins r = record { climbable = r; under = omega arith }
 
+  -- an earlier record stands in the file too
+  pub earlier-in-file : (x : ℕ) → x ≤ v → InFile file v → InFile file x
+  earlier-in-file x h here =
+      record { node = omega (arith, here .node); long = omega (arith, here .long, mul-le-mul-left (recordLength file) h) }
+
   pub record-below : (x : ℕ) → Climbing file v x → InFile file x
-  record-below x k =
-      let here = k .climbable .here in
-      record { node = omega (arith, here .node, k .under); long = omega (arith, here .long, k .under) }
+  record-below x k = earlier-in-file x (k .under) (k .climbable .here)
 
   -- one link up, from a node other than the server
   pub parent-less : (x y : ℕ) → Climbing file v x → (x ≡ 0 → ⊥) → y ≡ treeOf file .parent x → y < x

@@ -8,12 +8,13 @@ use native.Mathlib.Numerals.{add-one}
 use native.Mathlib.Omega.{arith}
 use lib.Dec.{leb, eqb}
 use Rattle.laws.specs.Lists.{has}
-use Rattle.model.specs.File.{Tree, treeOf, demandOf, lengthField}
+use Rattle.model.specs.File.{Tree, treeOf, lengthField}
 use Rattle.model.specs.Tree.{route}
 use Rattle.model.specs.Rules.{passed, broken, _then_, parentHolds, lengthHolds, recordVerdict, recordsVerdict}
 use Rattle.model.specs.Preorder.{PreorderTo}
-use Rattle.model.proofs.Accepted.{record-holds}
+use Rattle.model.proofs.Accepted.{record-holds, record-before}
 use Rattle.tree_file.specs.Checks.{NextRecord, Climbable, RecordsThere}
+use Rattle.tree_file.proofs.Climbs.{earlier-in-file}
 
 -- ---- rules 7 and 9 at the server and at the other nodes
 
@@ -52,7 +53,7 @@ module _ (file : List ℕ) where
   climbs-before (suc i) n z =
       let e : suc i - 1 ≡ i = omega arith in
       rw e (record {
-        here = record { node = omega (arith, n .here .node); long = omega (arith, n .here .long) };
+        here = earlier-in-file file (suc i) i (omega arith) (n .here);
         preorder = n .preorder;
       })
 
@@ -65,7 +66,7 @@ module _ (file : List ℕ) where
       pub some : i ≤ n
       pub there : RecordsThere file n
       pub preorder : PreorderTo (treeOf file) i
-      pub passing : recordsVerdict (treeOf file) (demandOf file) i ≡ passed
+      pub passing : recordsVerdict file i ≡ passed
 
     pub pass-begins : RecordsThere file n → Passing 0
     unfolding recordsVerdict
@@ -74,14 +75,14 @@ module _ (file : List ℕ) where
     pub pass-next : (i : ℕ) → Passing i → i < n → NextRecord file i
     pass-next i p h =
         record {
-          here = record { node = omega (arith, p .there .few); long = omega (arith, p .there .long) };
+          here = record { node = omega (arith, p .there .few); long = omega (arith, p .there .long, record-before file h) };
           preorder = p .preorder;
         }
 
-    pub pass-climbs : (i : ℕ) → Passing i → i < n → passed ≡ recordVerdict (treeOf file) (demandOf file) i → Climbable file i
-    pass-climbs i p h e = climbs-here i (pass-next i p h) (record-holds (treeOf file) (demandOf file) i (sym e) .parent)
+    pub pass-climbs : (i : ℕ) → Passing i → i < n → passed ≡ recordVerdict file i → Climbable file i
+    pass-climbs i p h e = climbs-here i (pass-next i p h) (record-holds file i (sym e) .parent)
 
-    pub pass-turns : (i : ℕ) → Passing i → i < n → passed ≡ recordVerdict (treeOf file) (demandOf file) i → Passing (i + 1)
+    pub pass-turns : (i : ℕ) → Passing i → i < n → passed ≡ recordVerdict file i → Passing (i + 1)
     unfolding recordsVerdict
     pass-turns i p h e =
         rw (add-one i) (record {
@@ -91,23 +92,23 @@ module _ (file : List ℕ) where
           passing = ap₂ _then_ (p .passing) (sym e);
         })
 
-    pub pass-ends : (i : ℕ) → Passing i → n ≤ i → passed ≡ recordsVerdict (treeOf file) (demandOf file) n
+    pub pass-ends : (i : ℕ) → Passing i → n ≤ i → passed ≡ recordsVerdict file n
     pass-ends i p h =
         let e : i ≡ n = omega (arith, p .some) in
         sym (rw e at (p .passing))
 
   -- a no of record i is the first of all that have record i among them
-  stays : (n i q j : ℕ) → i < n → recordsVerdict (treeOf file) (demandOf file) (suc i) ≡ broken q j
-      → recordsVerdict (treeOf file) (demandOf file) n ≡ broken q j
+  stays : (n i q j : ℕ) → i < n → recordsVerdict file (suc i) ≡ broken q j
+      → recordsVerdict file n ≡ broken q j
   unfolding recordsVerdict
   stays zero i q j h e = absurd (omega arith)
   stays (suc n) i q j h e =
       elim (decLt i n) [
-        | yes l ↦ ap (λ v. v then recordVerdict (treeOf file) (demandOf file) n) (stays n i q j l e)
+        | yes l ↦ ap (λ v. v then recordVerdict file n) (stays n i q j l e)
         | no l ↦ let same : i ≡ n = omega arith in rw same at e
       ]
 
-  pub pass-breaks : (n i q j : ℕ) → Passing n i → i < n → broken q j ≡ recordVerdict (treeOf file) (demandOf file) i
-      → broken q j ≡ recordsVerdict (treeOf file) (demandOf file) n
+  pub pass-breaks : (n i q j : ℕ) → Passing n i → i < n → broken q j ≡ recordVerdict file i
+      → broken q j ≡ recordsVerdict file n
   unfolding recordsVerdict
   pass-breaks n i q j p h e = sym (stays n i q j h (ap₂ _then_ (p .passing) (sym e)))

@@ -32,7 +32,7 @@ abbrev RecordOwed : Slice u8 → ℕ → Slice u8 → Type 0
 RecordOwed file v r = (now r ≡ recordBytes (now file) v) × RecordHandedBack file v r
 
 module _ (file : Slice u8) (v : ℕ) {r : Slice u8} where
-  pub record-here : passed ≡ fileVerdict (now file) → v < countOf (now file) → PartOf u8 file (recordAt v) recordLength r → RecordOwed file v r
+  pub record-here : passed ≡ fileVerdict (now file) → v < countOf (now file) → PartOf u8 file (recordAt (now file) v) (recordLength (now file)) r → RecordOwed file v r
   unfolding recordBytes accepted RecordHandedBack
   record-here e h p = rw (← e, lt-ltb v (countOf (now file)) h) (p .entries, p)
 

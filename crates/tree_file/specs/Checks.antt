@@ -45,4 +45,4 @@ pub record DepthsTo (t : Tree) (depths : List ℕ) (v : ℕ) : Type 0 where
 -- the first n records stand in the file
 pub record RecordsThere (file : List ℕ) (n : ℕ) : Type 0 where
   pub few : n ≤ mostNodes
-  pub long : recordAt n ≤ length file
+  pub long : recordAt file n ≤ length file

@@ -12,4 +12,4 @@ use Rattle.model.specs.Rules.{accepted}
 -- part of the file at the record's offset, else the empty part at the file's start
 unfoldable pub RecordHandedBack : Slice u8 → ℕ → Slice u8 → Type 0
 RecordHandedBack file v r =
-    cond (accepted (now file) && ltb v (countOf (now file))) (PartOf u8 file (recordAt v) recordLength r) (PartOf u8 file 0 0 r)
+    cond (accepted (now file) && ltb v (countOf (now file))) (PartOf u8 file (recordAt (now file) v) (recordLength (now file)) r) (PartOf u8 file 0 0 r)

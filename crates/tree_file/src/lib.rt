@@ -5,7 +5,7 @@ ghost use lib.ListN.{length};
 ghost use denote.Builtin.{u8};
 ghost use Rattle.laws.specs.Lists.{has};
 ghost use Rattle.laws.specs.Slices.{PartOf};
-ghost use Rattle.model.specs.File.{countOf, headerLength, recordAt, recordLength, treeOf, demandOf};
+ghost use Rattle.model.specs.File.{countOf, headerLength, recordAt, recordLength, treeOf};
 ghost use Rattle.model.specs.Tree.{route, depth, height};
 ghost use Rattle.model.specs.Rules.{passed, marked, parentHolds, lengthHolds, recordVerdict, recordsVerdict, fileVerdict};
 ghost use Rattle.model.specs.Calls.{answer, checkNumber, recordBytes};
@@ -84,7 +84,7 @@ fn length_holds(file: &[u8], i: usize) -> bool
 fn record_ruling(file: &[u8], depths: &[usize], i: usize) -> Ruling
     requires { ⌜ NextRecord (now file) i ⌝ }
     requires { ⌜ DepthsTo (treeOf (now file)) (now depths) i ⌝ }
-    ensures { λ r. ⌜ verdictOf r ≡ recordVerdict (treeOf (now (file .entry))) (demandOf (now (file .entry))) i ⌝ }
+    ensures { λ r. ⌜ verdictOf r ≡ recordVerdict (now (file .entry)) i ⌝ }
 {
     let record = i as u16;
     if !parent_holds(file, i) {
@@ -108,7 +108,7 @@ fn record_ruling(file: &[u8], depths: &[usize], i: usize) -> Ruling
 // Each of the first n records through rules 7 to 11 before the next.
 fn records_ruling(file: &[u8], n: usize) -> Ruling
     requires { ⌜ RecordsThere (now file) n ⌝ }
-    ensures { λ r. ⌜ verdictOf r ≡ recordsVerdict (treeOf (now (file .entry))) (demandOf (now (file .entry))) n ⌝ }
+    ensures { λ r. ⌜ verdictOf r ≡ recordsVerdict (now (file .entry)) n ⌝ }
 {
     let mut depths = [0usize; fields::Tree::NODES];
     let mut i = 0;
@@ -226,7 +226,7 @@ pub fn check(file: &[u8]) -> Checked
 
 fn record_at(file: &[u8], v: usize) -> &[u8]
     requires { ⌜ InFile (now file) v ⌝ }
-    ensures { λ r. ⌜ PartOf u8 (file .entry) (recordAt v) recordLength r ⌝ }
+    ensures { λ r. ⌜ PartOf u8 (file .entry) (recordAt (now (file .entry)) v) (recordLength (now (file .entry))) r ⌝ }
 {
     let start = fields::Tree::HEADER + fields::Tree::RECORD * v;
     let end = start + fields::Tree::RECORD;

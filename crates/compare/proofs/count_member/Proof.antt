@@ -41,7 +41,7 @@ slice-write-counts : tie.Need-slice-write-counts Inv-loop μ-loop
 slice-write-counts c = search needs
 
 parent-of-requires : tie.Need-parent-of-requires Inv-loop μ-loop
-parent-of-requires c κs = search needs
+parent-of-requires c κs = c .before .before .before .before .before .before .before .pre .0 .given .ofFile .records _ (search needs)
 
 loop-less : tie.Need-loop-less Inv-loop μ-loop
 loop-less c =

@@ -3,7 +3,7 @@ use Prim.Native.Nat.{_-_}
 use native.Mathlib.Omega.{arith}
 use borrow.Author.Needs.{needs}
 use Rattle.compare.specs.Counting.{VisitedTo}
-use Rattle.compare.proofs.Visits.{visit-begins, visit-ends, visit-ahead, visit-behind, visit-fits, visit-differs, visit-turns}
+use Rattle.compare.proofs.Visits.{in-tree, in-tree-other, visit-begins, visit-ends, visit-ahead, visit-behind, visit-fits, visit-differs, visit-turns}
 use Rattle.compare.proofs.visited_before.Statement.{statement}
 use Rattle.compare.proofs.visited_before.Tie as tie
 
@@ -50,10 +50,10 @@ returns-2 : tie.Need-returns-2 Inv-loop μ-loop
 returns-2 c = visit-behind (c .before .before .before .before .before .before .before .before .before .before .before .before .before .before .pre) (c .before .before .before .before .before .before .before .loop .inv) (omega (arith, c .before .before .before .before .before .before .before .before .count-of .ensures, c .before .before .before .before .before .before .loop-test .taken)) (c .if2 .taken)
 
 has-at-requires : tie.Need-has-at-requires Inv-loop μ-loop
-has-at-requires c κs = (c .before .before .before .before .before .before .before .loop .inv .some, rw (c .before .before .before .before .before .before .before .before .count-of .ensures) (c .before .before .before .before .before .before .before .before .before .before .before .before .before .before .pre .countable .given .ofNodes), c .before .before .before .before .before .before .before .loop .inv .counted)
+has-at-requires c κs = (c .before .before .before .before .before .before .before .loop .inv .some, rw (c .before .before .before .before .before .before .before .before .count-of .ensures) (in-tree (c .before .before .before .before .before .before .before .before .before .before .before .before .before .before .pre)), c .before .before .before .before .before .before .before .loop .inv .counted)
 
 has-at-requires-2 : tie.Need-has-at-requires-2 Inv-loop μ-loop
-has-at-requires-2 c κs = (c .before .before .before .before .before .before .before .before .loop .inv .some, rw (c .before .before .before .before .before .before .before .before .before .count-of .ensures) (c .before .before .before .before .before .before .before .before .before .before .before .before .before .before .before .pre .countableOther .given .ofNodes), c .before .before .before .before .before .before .before .before .loop .inv .countedOther)
+has-at-requires-2 c κs = (c .before .before .before .before .before .before .before .before .loop .inv .some, rw (c .before .before .before .before .before .before .before .before .before .count-of .ensures) (in-tree-other (c .before .before .before .before .before .before .before .before .before .before .before .before .before .before .before .pre)), c .before .before .before .before .before .before .before .before .loop .inv .countedOther)
 
 returns-3 : tie.Need-returns-3 Inv-loop μ-loop
 returns-3 c = visit-differs (c .before .before .before .before .before .before .before .before .before .before .before .before .before .before .before .before .before .pre) (c .before .before .before .before .before .before .before .before .before .before .loop .inv) (omega (arith, c .before .before .before .before .before .before .before .before .before .before .before .count-of .ensures, c .before .before .before .before .before .before .before .before .before .loop-test .taken)) (c .before .before .before .before .before .before .if1 .left) (c .before .before .before .if2 .left) (c .before .before .has-at .ensures) (c .before .has-at2 .ensures) (c .if3 .taken)

@@ -4,8 +4,8 @@ use Prim.Native.Nat.{_-_, _≤_}
 use native.Mathlib.Omega.{arith}
 use borrow.Author.Needs.{needs}
 use Rattle.model.specs.File.{demandOf}
+use Rattle.model.specs.Bill.{cachable}
 use Rattle.node_words.proofs.Words.{room-record}
-use Rattle.greedy.specs.Savings.{cachable}
 use Rattle.greedy.specs.Words.{reachWord, Wrote}
 use Rattle.greedy.proofs.Words.{wrote-none, wrote-next}
 use Rattle.greedy.proofs.own_flows.Statement.{statement}

@@ -1,6 +1,7 @@
 -- `check`: rules 1 to 11, then rule 13.
 use mathlib.Core.Path.{sym, ap, _∙_}
 use borrow.Author.Needs.{needs}
+use Rattle.laws.proofs.Bools.{held, failed}
 use Rattle.tree_file.specs.Checks.{answerOf}
 use Rattle.lent.proofs.Asked.{answered-sizes, scratch-held, scratch-short, scratch-unasked}
 use Rattle.lent.proofs.check.Statement.{statement}
@@ -12,17 +13,17 @@ check-requires c κs = search needs
 enum-known-checked : tie.Need-enum-known-checked
 enum-known-checked c = search needs
 
-scratch-words-requires : tie.Need-scratch-words-requires
-scratch-words-requires c κs = answered-sizes _ (ap answerOf (sym (c .before .checked .given .1)) ∙ c .before .before .before .check .ensures)
+enough-requires : tie.Need-enough-requires
+enough-requires c κs = answered-sizes _ (ap answerOf (sym (c .before .checked .given .1)) ∙ c .before .before .before .check .ensures)
 
 returns : tie.Need-returns
-returns c = scratch-short _ _ _ (ap answerOf (sym (c .before .before .before .checked .given .1)) ∙ c .before .before .before .before .before .check .ensures) (c .before .scratch-words .ensures) _ (c .if1 .taken)
+returns c = scratch-short _ (ap answerOf (sym (c .before .before .before .checked .given .1)) ∙ c .before .before .before .before .before .check .ensures) _ (failed (c .before .enough .ensures) (c .if1 .taken))
 
 enum-known-checked-2 : tie.Need-enum-known-checked-2
 enum-known-checked-2 c = search needs
 
 returns-2 : tie.Need-returns-2
-returns-2 c = scratch-held _ _ _ (ap answerOf (sym (c .before .before .before .checked .given .1)) ∙ c .before .before .before .before .before .check .ensures) (c .before .scratch-words .ensures) _ (c .if1 .left)
+returns-2 c = scratch-held _ (ap answerOf (sym (c .before .before .before .checked .given .1)) ∙ c .before .before .before .before .before .check .ensures) _ (held (c .before .enough .ensures) (c .if1 .left))
 
 returns-3 : tie.Need-returns-3
 returns-3 c = scratch-unasked _ _ _ _ (ap answerOf (sym (c .before .checked2 .given .1)) ∙ c .before .before .before .check .ensures)
@@ -33,7 +34,7 @@ check-spec =
     (tie.spec
     check-requires
     enum-known-checked
-    scratch-words-requires
+    enough-requires
     returns
     enum-known-checked-2
     returns-2

@@ -19,7 +19,7 @@ enum-told : tie.Need-enum-told
 enum-told c = search needs
 
 returns : tie.Need-returns
-returns c = words-of-accepted _ _ _ (ap answerOf (sym (c .before .before .checked .given .1)) ∙ c .before .before .before .before .check .ensures) (c .scratch-words .ensures)
+returns c = words-of-accepted _ (ap answerOf (sym (c .before .before .checked .given .1)) ∙ c .before .before .before .before .check .ensures) (c .scratch-words .ensures)
 
 returns-2 : tie.Need-returns-2
 returns-2 c = words-of-refused _ _ _ (ap answerOf (sym (c .enum-told .given .1)) ∙ c .before .before .check .ensures)

@@ -2,8 +2,8 @@
 use native.Mathlib.Omega.{arith}
 use borrow.Author.Needs.{needs}
 use Rattle.model.specs.File.{treeOf, demandOf}
-use Rattle.best_rows.specs.BestAt.{bestAt, childrenAt}
-use Rattle.best_rows.specs.TreeRows.{nextSibling}
+use Rattle.best_rows.specs.Guarded.{free}
+use Rattle.best_rows.specs.BestAt.{childrenAt, siblingsAt}
 use Rattle.lines.specs.Line.{LinesHoldBest}
 use Rattle.table.specs.Table.{width, Served}
 use Rattle.table.proofs.Reading.{served-room, children-place, own-place, siblings-place, served-itself, served-above-it, lines-hold-best}
@@ -31,7 +31,7 @@ served c = split-served (start c .pre) (c .depth-word .ensures)
 held : (c : tie.After-line3) → let a = start (depth-read c) .args in
     let t = treeOf (a .file .now) in
     let d = demandOf (a .file .now) in
-    LinesHoldBest (width (a .tree)) (childrenAt t d (a .x) (a .serving)) (bestAt t d (nextSibling t (a .x)) (a .serving)) (c .before .before .before .line .result .now) (c .before .before .line2 .result .now) (c .line3 .result .now)
+    LinesHoldBest (width (a .tree)) (childrenAt t d free (a .x) (a .serving)) (siblingsAt t d free (a .x) (a .serving)) (c .before .before .before .line .result .now) (c .before .before .line2 .result .now) (c .line3 .result .now)
 held c =
     let next = c .before in
     let uncached = next .before in

@@ -98,7 +98,7 @@ row-loop-holds t c =
     row-opens (start .pre .1 .0) (start .pre .1 .1)
 
 row-parent-of-requires : (t : ℕ) → row-lts.Need-parent-of-requires (row-claims t) (row-at t) row.Post row-Inv-loop row-μ-loop
-row-parent-of-requires t c κs = search needs
+row-parent-of-requires t c κs = c .before .before .before .before .before .before .pre .1 .0 .ofFile .records _ (search needs)
 
 row-same-length : (t : ℕ) → row-lts.Need-same-length (row-claims t) (row-at t) row.Post row-Inv-loop row-μ-loop
 row-same-length t c =

@@ -28,7 +28,7 @@ shared-slice-read-t10 : tie.Need-shared-slice-read-t10 Inv-loop μ-loop
 shared-slice-read-t10 c = search needs
 
 length-of-requires : tie.Need-length-of-requires Inv-loop μ-loop
-length-of-requires c κs = search needs
+length-of-requires c κs = c .before .before .before .before .before .pre .0 .0 .records _ (search needs)
 
 over-requires : tie.Need-over-requires Inv-loop μ-loop
 over-requires c κs = omega (arith, total-fits _ _ _ _ _ (c .before .before .before .loop .inv .0) (c .length-of .ensures) (c .before .before .before .loop .inv .2) _ (c .before .before .loop-test .taken), c .before .before .before .before .before .before .pre .1)

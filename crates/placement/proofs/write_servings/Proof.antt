@@ -5,6 +5,7 @@ use native.Mathlib.Omega.{arith}
 use lib.ListN.{length-set}
 use borrow.Author.Needs.{needs}
 use Rattle.placement.specs.Passes.{Serving}
+use Rattle.model.proofs.Ascending.{set-ascends}
 use Rattle.placement.proofs.Servings.{pass-begins, pass-parent, pass-cursor, pass-turns, pass-ends}
 use Rattle.placement.proofs.write_servings.Statement.{statement}
 use Rattle.placement.proofs.write_servings.Tie as tie
@@ -26,10 +27,10 @@ loop-holds c =
 has-at-requires : tie.Need-has-at-requires Inv-loop μ-loop
 has-at-requires c κs =
     let start = c .before .before .before .before .before in
-    (c .before .loop .inv .some, rw (start .pre .0 .ofFile .nodes) (start .pre .0 .ofNodes), c .before .loop .inv .counted)
+    (c .before .loop .inv .some, rw (start .pre .0 .ofFile .nodes) (set-ascends _ _ (start .pre .0 .ofNodes)), c .before .loop .inv .counted)
 
 parent-of-requires : tie.Need-parent-of-requires Inv-loop μ-loop
-parent-of-requires c κs = search needs
+parent-of-requires c κs = c .before .before .before .before .before .before .pre .0 .ofFile .records _ (search needs)
 
 mul-above : tie.Need-mul-above Inv-loop μ-loop
 mul-above c = omega (arith, pass-parent _ _ _ (c .before .before .before .before .before .before .before .pre .0) _ _ _ _ (c .before .before .before .loop .inv) (c .before .before .loop-test .taken) _ (c .parent-of .ensures))

@@ -6,11 +6,12 @@ use lib.ListN.{length}
 use borrow.Author.Needs.{needs}
 use borrow.Author.Tests.{le-leb, lt-leb, eq-eqb, ne-eqb}
 use Rattle.laws.proofs.Bools.{held, failed, within-held, within-failed, below-held, below-failed}
-use Rattle.model.specs.File.{mostNodes, mostBudget, headerLength, version, versionOf, countOf, budgetOf, recordAt}
+use Rattle.model.specs.File.{mostNodes, mostBudget, headerLength, version, versionOf, countOf, budgetOf, recordLength, recordAt}
 use Rattle.model.specs.Rules.{marked, recordsVerdict, fileVerdict}
 use Rattle.fields.proofs.budget_of.Reads as budget-of-reads
 use Rattle.fields.proofs.count_of.Reads as count-of-reads
 use Rattle.fields.proofs.version_of.Reads as version-of-reads
+use Rattle.tree_file.proofs.Header.{exact-held, exact-failed}
 use Rattle.tree_file.proofs.is_marked.Reads as is-marked-reads
 use Rattle.tree_file.proofs.records_ruling.Reads as records-ruling-reads
 use Rattle.tree_file.proofs.file_ruling.Statement.{statement}
@@ -53,8 +54,8 @@ small-budget : (c : lts.Else6 calls reads.Pre reads.Post) → leb (budgetOf (c .
 small-budget c = within-held (c .before .budget-of .ensures) (c .if6 .left)
 
 exact : (c : lts.Else7 calls reads.Pre reads.Post)
-    → let s = c .before .before .before .before .before .before .before .before .before .before .before .before .args .file .now in eqb (length s) (recordAt (countOf s)) ≡ true
-exact c = eq-eqb _ _ (c .if7 .left ∙ ap recordAt (c .before .before .before .before .before .count-of .ensures))
+    → let s = c .before .before .before .before .before .before .before .before .before .before .before .before .args .file .now in eqb (length s) (recordAt s (countOf s)) ≡ true
+exact c = exact-held (c .before .before .before .before .before .before .before .before .before .before .before .before .args .file .now) (c .before .before .before .before .before .count-of .ensures) (c .if7 .left)
 
 -- ---- the answers
 
@@ -102,16 +103,17 @@ add-if7 c = search needs
 
 returns-7 : tie.Need-returns-7
 unfolding fileVerdict
-returns-7 c = simp (long (c .before .before .before .before .before .before .before .before .before .before), marks (c .before .before .before .before .before .before .before .before), version-one (c .before .before .before .before .before .before), some (c .before .before .before .before), few (c .before .before .before), small-budget (c .before), ne-eqb _ _ (λ e. c .if7 .taken (e ∙ ap recordAt (sym (c .before .before .before .before .before .count-of .ensures)))))
+returns-7 c = simp (long (c .before .before .before .before .before .before .before .before .before .before), marks (c .before .before .before .before .before .before .before .before), version-one (c .before .before .before .before .before .before), some (c .before .before .before .before), few (c .before .before .before), small-budget (c .before), exact-failed (c .before .before .before .before .before .before .before .before .before .before .before .before .args .file .now) (c .before .before .before .before .before .count-of .ensures) (c .if7 .taken))
 
 records-ruling-requires : tie.Need-records-ruling-requires
+unfolding recordLength
 records-ruling-requires c κs = search needs
 
 returns-8 : tie.Need-returns-8
 unfolding fileVerdict
 returns-8 c =
     simp (long (c .before .before .before .before .before .before .before .before .before .before .before), marks (c .before .before .before .before .before .before .before .before .before), version-one (c .before .before .before .before .before .before .before), some (c .before .before .before .before .before), few (c .before .before .before .before), small-budget (c .before .before), exact (c .before))
-    (c .records-ruling .ensures ∙ ap (recordsVerdict _ _) (c .before .before .before .before .before .before .count-of .ensures))
+    (c .records-ruling .ensures ∙ ap (recordsVerdict _) (c .before .before .before .before .before .before .count-of .ensures))
 
 pub file-ruling-spec : {M : Type 1} → statement M
 file-ruling-spec =
