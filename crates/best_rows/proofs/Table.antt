@@ -28,7 +28,7 @@ unfolding rowCount rowSize
 count-within-size empty x = omega arith
 count-within-size (node v a b) x = omega (arith, one-within v (x .0), count-within-size a (x .1), count-within-size b (x .2))
 
-module _ (t : Tree) (d : Demand) where
+module _ (t : Tree) where
   pub row-size-none : rowSize (rowAt t 0) ≡ 0
   unfolding rowSize
   row-size-none = rw (row-at-none t)

@@ -7,7 +7,7 @@ use native.Mathlib.Decide.{ℕ-discrete}
 use native.Mathlib.Omega.{arith}
 use lib.ListN.{length, getD, set, replicate, length-set, length-replicate, getD-replicate}
 use lib.Seq.{getD-set-same, getD-set-other}
-use Rattle.model.specs.File.{Tree, treeOf, demandOf, mostNodes}
+use Rattle.model.specs.File.{Tree, treeOf, mostNodes}
 use Rattle.model.proofs.Accepted.{accepted-header}
 use Rattle.best_rows.specs.Rows.{rowSize}
 use Rattle.best_rows.specs.TreeRows.{rowAt, NoneOrChild}
@@ -34,7 +34,7 @@ module _ {file : List ℕ} {n : ℕ} {words : List ℕ} (notes : FileWords file 
     long = rw length-replicate (omega (arith, nodes-few, notes .nodes .count));
     size = λ u h first.
         let none : u ≡ 0 = ⊎-elim (λ e. e) (λ l. omega (arith, notes .nodes .count)) first in
-        rw (none, row-size-none t (demandOf file)) (getD-replicate mostNodes 0 0 0 (omega arith));
+        rw (none, row-size-none t) (getD-replicate mostNodes 0 0 0 (omega arith));
   }
 
   module _ {v : ℕ} (site : 0 < v) (below : v < n) where
@@ -63,7 +63,7 @@ module _ {file : List ℕ} {n : ℕ} {words : List ℕ} (notes : FileWords file 
       counts-sum =
           let a = so-far .size child (omega (arith, child-counted c, notes .nodes .count)) (rw c (later (child-word-stands t words (notes .stand) v node))) in
           let b = so-far .size sibling (omega (arith, sibling-counted s, notes .nodes .count)) (rw s (later (sibling-word-stands t words (notes .stand) v node site))) in
-          rw (a, b, c, s, notes .stand .child v node, notes .stand .sibling v site node) (sym (row-size-node t (demandOf file) v site node))
+          rw (a, b, c, s, notes .stand .child v node, notes .stand .sibling v site node) (sym (row-size-node t v site node))
 
       pub counts-fit : 1 + getD counts child 0 + getD counts sibling 0 < mostNodes
       counts-fit = omega (arith, counts-sum, row-size-within t (room-sound (notes .nodes) .preorder) v node, nodes-few, notes .nodes .count)

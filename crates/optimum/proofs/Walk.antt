@@ -128,7 +128,7 @@ module _ {file : List ℕ} {allows : ℕ → Bool → Bool} {sizes : code.Tree} 
 
       row-shrinks : 1 + rowSize (rowAt (treeOf file) (firstChild (treeOf file) x)) + rowSize (rowAt (treeOf file) (nextSibling (treeOf file) x))
           ≡ rowSize (rowAt (treeOf file) x)
-      row-shrinks = sym (row-size-node (treeOf file) (demandOf file) x walked-site (row .served .node))
+      row-shrinks = sym (row-size-node (treeOf file) x walked-site (row .served .node))
 
       -- the children's row is smaller than the row walked, and the later siblings' than the one that x begins
       pub children-smaller : rowSize (rowAt (treeOf file) (firstChild (treeOf file) x)) < rowSize (rowAt (treeOf file) first)
