@@ -11,11 +11,11 @@ use Rattle.laws.proofs.Lists.{has-head, has-other, has-those, in-range}
 use Rattle.laws.proofs.Counts.{length-those, how-many-those}
 use Rattle.model.specs.File.{Tree}
 use Rattle.model.specs.Tree.{sites, route, atOrBelow}
-use Rattle.model.specs.Rules.{isSet}
+use Rattle.model.specs.Rules.{ascends}
 use Rattle.model.specs.Ties.{members}
 use Rattle.model.specs.Preorder.{Preorder}
 use Rattle.model.proofs.Routes.{route-server, parent-before, route-up, by-route, route-before}
-use Rattle.model.proofs.Ascending.{ascends-range, ascends-those, same-members, set-ascends}
+use Rattle.model.proofs.Ascending.{ascends-range, ascends-those, same-members}
 use Rattle.best_rows.specs.Rows.{Row, empty, node, rowNodes, choiceOf, rowCount}
 use Rattle.best_rows.specs.TreeRows.{rowAfter, serverRow}
 use Rattle.best_rows.specs.BestAt.{one}
@@ -28,11 +28,11 @@ unfolding rowCount choiceOf rowNodes howMany
 row-counts k empty l = omega arith
 row-counts k (node v a b) l = omega (arith, row-counts k a (rowNodes b l), row-counts k b l)
 
--- a set is those of the sites that it has
-set-is-those : (t : Tree) (k : List ℕ) → isSet t k ≡ true → k ≡ those (has k) (sites t)
-set-is-those t k g =
+-- an ascending list of sites is those of the sites that it has
+list-is-those : (t : Tree) (k : List ℕ) → ascends 0 (t .count) k ≡ true → k ≡ those (has k) (sites t)
+list-is-those t k g =
     let n = t .count in
-    same-members n 0 k (those (has k) (sites t)) (set-ascends t k g) (ascends-those n (has k) 0 (sites t) (ascends-range n 0 (n - 1) (omega arith)))
+    same-members n 0 k (those (has k) (sites t)) g (ascends-those n (has k) 0 (sites t) (ascends-range n 0 (n - 1) (omega arith)))
     (λ v i j. rw (has-those (has k) v (sites t), in-range 1 (n - 1) v i (omega arith), and-true))
 
 -- the nodes of a row in front of a list, all or none
@@ -90,20 +90,20 @@ module _ (t : Tree) (pre : Preorder t) where
 
   -- ---- so the row of a node's children counts the members below it, and the server's row all members
 
-  pub members-is-row-count : (k : List ℕ) → isSet t k ≡ true → (i m : ℕ) → i + suc m ≡ t .count - 1
+  pub members-is-row-count : (k : List ℕ) → ascends 0 (t .count) k ≡ true → (i m : ℕ) → i + suc m ≡ t .count - 1
       → members t k (suc i) ≡ one (suc i) (has k (suc i)) + rowCount one (rowAfter t m (suc i) (suc i)) (choiceOf k (rowAfter t m (suc i) (suc i)))
   unfolding members howMany
   members-is-row-count k g i m e =
       let r = rowAfter t m (suc i) (suc i) in
-      ap (howMany (atOrBelow t (suc i))) (set-is-those t k g)
+      ap (howMany (atOrBelow t (suc i))) (list-is-those t k g)
       ∙ how-many-those (atOrBelow t (suc i)) (has k) (sites t)
       ∙ ap (howMany (has k)) (sites-below i m e)
       ∙ omega (arith, row-counts k r [])
 
-  pub length-is-row-count : (k : List ℕ) → isSet t k ≡ true → length k ≡ rowCount one (serverRow t) (choiceOf k (serverRow t))
+  pub length-is-row-count : (k : List ℕ) → ascends 0 (t .count) k ≡ true → length k ≡ rowCount one (serverRow t) (choiceOf k (serverRow t))
   unfolding howMany
   length-is-row-count k g =
-      ap length (set-is-those t k g)
+      ap length (list-is-those t k g)
       ∙ length-those (has k) (sites t)
       ∙ ap (howMany (has k)) (sym (server-row-whole t pre (t .count - 1)))
       ∙ omega (arith, row-counts k (serverRow t) [])

@@ -40,7 +40,7 @@ module _ (costs : ℕ → Bool → ℕ) (n : ℕ) where
 module _ {C : Type 0} (w : ℕ → Bool → ℕ) (p : Bool) (s : ℕ → Site C) where
   -- what node v and the row a of its children cost, by v's own choice
   abbrev costs : ℕ → Row → C → ℕ → Bool → ℕ
-  costs v a c = costsOf w p s v c (best w p s a)
+  costs v a c = costsOf w s v c (best w p s a)
 
   -- ---- the least is never above the cap, and below it the choice found has that count and that cost
 

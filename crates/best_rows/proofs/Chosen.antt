@@ -75,8 +75,8 @@ module _ (n : ℕ) where
         (λ i. (self i, children .0 i, siblings .0 i), siblings .1)
 
   -- where the nodes of a row ascend, the members of a choice on it ascend, and their choice is that one
-  pub chosen-is-set : (r : Row) (x : Choice r) (a : ℕ) → ascends a n (rowNodes r []) ≡ true → ascends a n (chosen r x) ≡ true
-  chosen-is-set r x a h = rw (append-nil (chosen r x)) at (chosen-ascend r x [] [] (λ _ e. e) a h)
+  pub chosen-ascends : (r : Row) (x : Choice r) (a : ℕ) → ascends a n (rowNodes r []) ≡ true → ascends a n (chosen r x) ≡ true
+  chosen-ascends r x a h = rw (append-nil (chosen r x)) at (chosen-ascend r x [] [] (λ _ e. e) a h)
 
   pub choice-of-chosen : (r : Row) (x : Choice r) (a : ℕ) → ascends a n (rowNodes r []) ≡ true → choiceOf (chosen r x) r ≡ x
   choice-of-chosen r x a h =

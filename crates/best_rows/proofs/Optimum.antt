@@ -1,19 +1,20 @@
--- The dynamic program finds the first of the allowed sets; where everything is allowed that is the plan, and its least is the
--- plan's total.
+-- The dynamic program finds the first of the allowed sets. With what the nodes of the tree may be, that is the plan, and its
+-- least is the plan's total.
 use mathlib.Core.Path.{_≡_, refl, sym, ap, _∙_}
-use mathlib.Core.Bool.{Bool}
+use mathlib.Core.Bool.{Bool, true}
 use mathlib.Core.List.{List, []}
-use Prim.Native.Nat.{ℕ, _-_}
+use Prim.Native.Nat.{ℕ, _-_, _≤_}
 use native.Mathlib.Omega.{arith}
+use lib.ListN.{length}
 use Rattle.model.specs.File.{Tree, Demand, treeOf, demandOf}
-use Rattle.model.specs.Rules.{passed, fileVerdict}
+use Rattle.model.specs.Rules.{passed, fileVerdict, isSet}
 use Rattle.model.specs.Bill.{total}
 use Rattle.model.specs.Plan.{plan, planTotal}
 use Rattle.model.specs.Accepted.{Sound}
 use Rattle.model.proofs.Accepted.{accepted-sound}
-use Rattle.model.proofs.Ascending.{empty-is-set}
+use Rattle.model.proofs.Ascending.{set-is, set-ascends, empty-is-set}
 use Rattle.model.proofs.Plans.{only-plan}
-use Rattle.best_rows.specs.Guarded.{free, AllowedSet, RanksFirstAllowed}
+use Rattle.best_rows.specs.Guarded.{mayBe, AllowedSet, RanksFirstAllowed}
 use Rattle.best_rows.specs.TreeRows.{nodesAfter, firstChild, rowAt, serverRow}
 use Rattle.best_rows.specs.BestAt.{bestAt, bestNodes, leastCount}
 use Rattle.best_rows.proofs.TreeRows.{row-at-first}
@@ -34,19 +35,29 @@ allowed-found t d ok allows b l some =
     let here = row-at-server t in
     (rw (← here) at (nodes-found-rank-first t d ok allows b l some), rw (← here) at (nodes-found-total t d ok allows b l some))
 
--- where everything is allowed that is the plan, for every accepted file and every budget
+-- ---- the plan: what a node of the tree may be, a set's nodes are, and no more is asked of them
+
+module _ (t : Tree) (b : ℕ) (k : List ℕ) where
+  set-allowed : isSet t k ≡ true → length k ≤ b → AllowedSet t (mayBe t) b k
+  unfolding mayBe
+  set-allowed g h = record { ascending = set-ascends t k g; within = h; allowed = λ v _. refl }
+
+  allowed-set : AllowedSet t (mayBe t) b k → isSet t k ≡ true
+  allowed-set a = set-is t k ∙ a .ascending
+
+-- for every accepted file and every budget
 pub optimum-found : (file : List ℕ) → fileVerdict file ≡ passed → (b : ℕ)
     → let t = treeOf file in let d = demandOf file in
-    (bestNodes t d free (firstChild t 0) 0 (leastCount t d free b) ≡ plan t d b)
-    × (bestAt t d free (firstChild t 0) 0 (leastCount t d free b) ≡ planTotal t d b)
+    (bestNodes t d (mayBe t) (firstChild t 0) 0 (leastCount t d (mayBe t) b) ≡ plan t d b)
+    × (bestAt t d (mayBe t) (firstChild t 0) 0 (leastCount t d (mayBe t) b) ≡ planTotal t d b)
 optimum-found file fits b =
     let t = treeOf file in
     let d = demandOf file in
-    let found = allowed-found t d (accepted-sound file fits) free b [] (record { isASet = empty-is-set t; within = omega arith; allowed = λ v _. refl }) in
+    let found = allowed-found t d (accepted-sound file fits) (mayBe t) b [] (set-allowed t b [] (empty-is-set t) (omega arith)) in
     let first = found .0 in
     let is = only-plan t d b _ (record {
-      isASet = first .fits .isASet;
+      isASet = allowed-set t b _ (first .fits);
       within = first .fits .within;
-      first = λ l g h. first .first l (record { isASet = g; within = h; allowed = λ v _. refl });
+      first = λ l g h. first .first l (set-allowed t b l g h);
     }) in
     (is, sym (found .1) ∙ ap (total t d) is)

@@ -7,11 +7,11 @@ use mathlib.Core.Logic.{⊎-elim}
 use Prim.Native.Nat.{ℕ, _-_, _≤_, _<_}
 use native.Mathlib.Omega.{arith}
 use Rattle.model.specs.File.{Tree, Demand}
-use Rattle.model.specs.Rules.{ascends, isSet}
+use Rattle.model.specs.Rules.{ascends}
 use Rattle.model.specs.Bill.{total}
 use Rattle.model.specs.Ties.{tiesBefore, ranksBefore}
 use Rattle.model.specs.Accepted.{Sound}
-use Rattle.model.proofs.Ascending.{ascends-range, set-is}
+use Rattle.model.proofs.Ascending.{ascends-range}
 use Rattle.model.proofs.Bounds.{total-bound}
 use Rattle.model.proofs.Order.{smaller-said, rank-total}
 use Rattle.best_rows.specs.Least.{firstLeast}
@@ -25,7 +25,7 @@ use Rattle.best_rows.proofs.Cover.{server-row-whole}
 use Rattle.best_rows.proofs.Below.{length-is-row-count}
 use Rattle.best_rows.proofs.Totals.{total-is-row-cost}
 use Rattle.best_rows.proofs.Ties.{not-preceded}
-use Rattle.best_rows.proofs.Chosen.{length-chosen, chosen-is-set, choice-of-chosen}
+use Rattle.best_rows.proofs.Chosen.{length-chosen, chosen-ascends, choice-of-chosen}
 
 module _ (t : Tree) (d : Demand) (allows : ℕ → Bool → Bool) (b : ℕ) where
   -- the choice found on the server's row, and its members
@@ -49,7 +49,7 @@ module _ (t : Tree) (d : Demand) (ok : Sound t d) where
   below-cap k = omega (arith, total-is k, total-bound t d ok k)
 
   -- of two sets, the one whose choice ranks no later is not outranked
-  not-outranked : (k l : List ℕ) → isSet t k ≡ true → isSet t l ≡ true
+  not-outranked : (k l : List ℕ) → ascends 0 (t .count) k ≡ true → ascends 0 (t .count) l ≡ true
       → RanksNoLater one prefer (site t d) (serverRow t) 0 (choiceOf k (serverRow t)) (choiceOf l (serverRow t))
       → ranksBefore t d l k ≡ true → ⊥
   unfolding ranksBefore tiesBefore
@@ -80,7 +80,7 @@ module _ (t : Tree) (d : Demand) (ok : Sound t d) where
         × RanksNoLater one prefer (site t d) (serverRow t) 0 (choiceFound t d allows b) (choiceOf l (serverRow t))
     choice-found-ranks l a =
         guarded-ranks allows (site t d) one prefer (serverRow t) 0 b (choiceOf l (serverRow t)) (sites-kept allows l t (ok .preorder) .0 (a .allowed))
-        (omega (arith, a .within, length-is-row-count t (ok .preorder) l (a .isASet))) (below-cap l)
+        (omega (arith, a .within, length-is-row-count t (ok .preorder) l (a .ascending))) (below-cap l)
 
     -- where there is such a set
     module _ (k : List ℕ) (some : AllowedSet t allows b k) where
@@ -91,15 +91,15 @@ module _ (t : Tree) (d : Demand) (ok : Sound t d) where
       pub nodes-found-rank-first : RanksFirstAllowed t d allows b (nodesFound t d allows b)
       nodes-found-rank-first =
           let found = nodesFound t d allows b in
-          let isASet = set-is t found ∙ chosen-is-set (t .count) (serverRow t) (choiceFound t d allows b) 0 nodes-ascend in
+          let ascending = chosen-ascends (t .count) (serverRow t) (choiceFound t d allows b) 0 nodes-ascend in
           let ranks = choice-found-ranks k some in
           record {
             fits = record {
-              isASet = isASet;
+              ascending = ascending;
               within = omega (arith, length-chosen (serverRow t) (choiceFound t d allows b), ranks .1);
               allowed = sites-kept allows found t (ok .preorder) .1 (rw choice-found-is (ranks .0));
             };
             first = λ l a other.
-                ⊎-elim (λ p. p) (λ q. absurd (not-outranked found l isASet (a .isASet) (rw choice-found-is (choice-found-ranks l a .3)) q))
-                (rank-total t d found l isASet (a .isASet) (λ e. other (sym e)));
+                ⊎-elim (λ p. p) (λ q. absurd (not-outranked found l ascending (a .ascending) (rw choice-found-is (choice-found-ranks l a .3)) q))
+                (rank-total t d found l ascending (a .ascending) (λ e. other (sym e)));
           }

@@ -8,7 +8,7 @@ use native.Mathlib.Omega.{arith}
 use Rattle.laws.specs.Lists.{has}
 use Rattle.model.specs.File.{Tree}
 use Rattle.model.specs.Tree.{sites}
-use Rattle.model.specs.Rules.{isSet}
+use Rattle.model.specs.Rules.{ascends}
 use Rattle.model.specs.Ties.{havingFirst, visits}
 use Rattle.model.specs.Preorder.{Preorder}
 use Rattle.model.proofs.Order.{smaller-said}
@@ -26,7 +26,7 @@ having-alike true false rest e h = absurd (omega arith)
 having-alike false true rest e h = absurd (false≢true e)
 having-alike false false rest e h = (refl, e)
 
-module _ (t : Tree) (pre : Preorder t) (k l : List ℕ) (g : isSet t k ≡ true) (h : isSet t l ≡ true) where
+module _ (t : Tree) (pre : Preorder t) (k l : List ℕ) (g : ascends 0 (t .count) k ≡ true) (h : ascends 0 (t .count) l ≡ true) where
   -- where k comes before l on a row, or is like l there and so is the rest, l is not before k on its nodes and the rest
   row-not-preceded : (m i p : ℕ) → i + m ≡ t .count - 1 → (rest : Type 0) (vs : List ℕ) → (visits t l k vs ≡ true → rest → ⊥)
       → visits t l k (rowNodes (rowAfter t m i p) vs) ≡ true

@@ -17,7 +17,7 @@ cap = totalLimit
 unfoldable pub costIf : (Bool → ℕ) → (Bool → ℕ) → (Bool → ℕ → ℕ) → ℕ → Bool → ℕ
 costIf w pay children n u = cond (ltb n (w u)) cap (pay u + children u (n - w u))
 
--- where that is `costs n u`, and of two choices that cost the same p is preferred
+-- a node whose choice u costs `costs n u` with count n; of two choices that cost the same, p is preferred
 module _ (p : Bool) (costs : ℕ → Bool → ℕ) where
   -- the node's own choice at count n: p, unless the other costs less
   unfoldable pub ownChoice : ℕ → Bool
@@ -27,7 +27,7 @@ module _ (p : Bool) (costs : ℕ → Bool → ℕ) where
   unfoldable pub nodeBest : ℕ → ℕ
   nodeBest n = costs n (ownChoice n)
 
--- where that is `first n`, and `siblings n` is the least cost of the node's later siblings with count n
+-- a row: `first n` is the least cost of its first node and that node's children with count n, `siblings n` that of its later siblings
 module _ (first siblings : ℕ → ℕ) where
   -- the cost of the row with count m, of which r are among the later siblings
   unfoldable pub split : ℕ → ℕ → ℕ
@@ -43,22 +43,22 @@ module _ (first siblings : ℕ → ℕ) where
 
 -- ---- a row under a context (what it meets from above), where node v counts for w v, p is preferred, and s v has v's costs
 
-module _ {C : Type 0} (w : ℕ → Bool → ℕ) (p : Bool) (s : ℕ → Site C) where
-  -- what node v and its children cost, if `children e` has the least costs of their row under context e
-  abbrev pub costsOf : ℕ → C → (C → ℕ → ℕ) → ℕ → Bool → ℕ
-  costsOf v c children = costIf (w v) (s v .pay c) (λ u. children (s v .down c u))
+-- what node v and its children cost, if `children e` has the least costs of their row under context e
+abbrev pub costsOf : {C : Type 0} → (ℕ → Bool → ℕ) → (ℕ → Site C) → ℕ → C → (C → ℕ → ℕ) → ℕ → Bool → ℕ
+costsOf w s v c children = costIf (w v) (s v .pay c) (λ u. children (s v .down c u))
 
+module _ {C : Type 0} (w : ℕ → Bool → ℕ) (p : Bool) (s : ℕ → Site C) where
   -- the least cost with count m
   unfoldable pub best : Row → C → ℕ → ℕ
   best empty c zero = 0
   best empty c (suc m) = cap
-  best (node v a b) c m = rowBest (nodeBest p (costsOf v c (best a))) (best b c) m
+  best (node v a b) c m = rowBest (nodeBest p (costsOf w s v c (best a))) (best b c) m
 
   -- the choice that costs the least, by these splits and own choices
   unfoldable pub choose : (r : Row) → C → ℕ → Choice r
   choose empty c m = tt
   choose (node v a b) c m =
-      let costs = costsOf v c (best a) in
+      let costs = costsOf w s v c (best a) in
       let r = later (nodeBest p costs) (best b c) m in
       let u = ownChoice p costs (m - r) in
       (u, choose a (s v .down c u) (m - r - w v u), choose b c r)

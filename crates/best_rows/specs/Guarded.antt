@@ -7,14 +7,10 @@ use lib.ListN.{length}
 use Rattle.laws.specs.Lists.{has}
 use Rattle.model.specs.File.{Tree, Demand}
 use Rattle.model.specs.Tree.{sites}
-use Rattle.model.specs.Rules.{isSet}
+use Rattle.model.specs.Rules.{ascends}
 use Rattle.model.specs.Ties.{ranksBefore}
 use Rattle.best_rows.specs.Rows.{Row, empty, node, Choice, Site}
 use Rattle.best_rows.specs.Best.{cap}
-
--- everything is allowed
-abbrev pub free : ℕ → Bool → Bool
-free v u = true
 
 module _ (allows : ℕ → Bool → Bool) where
   -- what is not allowed costs the cap
@@ -26,17 +22,21 @@ module _ (allows : ℕ → Bool → Bool) where
   Allowed empty x = Unit {0}
   Allowed (node v a b) x = (allows v (x .0) ≡ true) × Allowed a (x .1) × Allowed b (x .2)
 
-  -- a set that keeps to it at each node of a list
+  -- K keeps to what is allowed at each node of a list
   abbrev pub KeepsTo : List ℕ → List ℕ → Type 0
   KeepsTo k l = (v : ℕ) → has l v ≡ true → allows v (has k v) ≡ true
 
--- K is a set of at most b nodes that keeps to what is allowed
+-- what a node of the tree may be, a cache (u is true) and none: everything is allowed
+unfoldable pub mayBe : Tree → ℕ → Bool → Bool
+mayBe t v u = true
+
+-- K is an ascending list of at most b nodes from 1 to n − 1 that keeps to what is allowed
 pub record AllowedSet (t : Tree) (allows : ℕ → Bool → Bool) (b : ℕ) (k : List ℕ) : Type 0 where
-  pub isASet : isSet t k ≡ true
+  pub ascending : ascends 0 (t .count) k ≡ true
   pub within : length k ≤ b
   pub allowed : KeepsTo allows k (sites t)
 
--- K is such a set, and ranks before every other one
+-- K is such a list, and ranks before every other one
 pub record RanksFirstAllowed (t : Tree) (d : Demand) (allows : ℕ → Bool → Bool) (b : ℕ) (k : List ℕ) : Type 0 where
   pub fits : AllowedSet t allows b k
   pub first : (l : List ℕ) → AllowedSet t allows b l → (l ≡ k → ⊥) → ranksBefore t d k l ≡ true

@@ -21,6 +21,11 @@ module _ (d : Demand) (c : ℕ) where
   unfolding whole cachable
   cachable-part h = mul-le-mul-left (d .flow c) h
 
+  -- what is not cachable: f × (1,000 − p)
+  pub relieved-is : relieved d c ≡ d .flow c * (thousandths - d .hit c)
+  unfolding whole cachable
+  relieved-is = sym (mul-sub (d .flow c) thousandths (d .hit c))
+
   module _ (t : Tree) where
     pub price-amounts : (v : ℕ) → price t d c v ≡ whole d c * distance t c - cachable d c * distance t v
     unfolding price whole cachable
@@ -29,7 +34,7 @@ module _ (d : Demand) (c : ℕ) where
         ∙ sym (ap₂ _-_ (mul-assoc (d .flow c) thousandths (distance t c)) (mul-assoc (d .flow c) (d .hit c) (distance t v)))
 
     pub load-amounts : (k : List ℕ) (v : ℕ) → clientLoad t d k v c ≡ cond (anyOf (has k) (upTo v (route t c))) (relieved d c) (whole d c)
-    unfolding clientLoad whole cachable
+    unfolding clientLoad whole
     load-amounts k v =
         by-test (λ b. d .flow c * cond b (thousandths - d .hit c) thousandths ≡ cond b (relieved d c) (whole d c))
-        (anyOf (has k) (upTo v (route t c))) (λ _. mul-sub (d .flow c) thousandths (d .hit c)) (λ _. refl)
+        (anyOf (has k) (upTo v (route t c))) (λ _. sym relieved-is) (λ _. refl)

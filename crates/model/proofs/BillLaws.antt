@@ -4,7 +4,6 @@ use mathlib.Core.Bool.{Bool, true, false, cond, _||_, or-true, or-false}
 use mathlib.Core.List.{List}
 use mathlib.Core.Logic.{_↔_, _⊎_, inl, inr, ⊎-elim}
 use Prim.Native.Nat.{ℕ, suc, _≤_}
-use native.Mathlib.Nat.{mul-sub}
 use native.Mathlib.Decide.{ℕ-discrete}
 use native.Mathlib.Omega.{arith}
 use borrow.Author.Tests.{eq-eqb, ne-eqb}
@@ -12,10 +11,11 @@ use Rattle.laws.specs.Lists.{sum, has, anyOf}
 use Rattle.laws.proofs.Bools.{by-test, not-both, either}
 use Rattle.model.specs.File.{Tree, Demand}
 use Rattle.model.specs.Tree.{nodes, route, atOrBelow}
-use Rattle.model.specs.Bill.{thousandths, whole, cachable, price, cost, upTo, linkLoad, serving}
+use Rattle.model.specs.Bill.{whole, price, cost, upTo, linkLoad, serving}
 use Rattle.model.specs.Preorder.{Preorder}
 use Rattle.model.specs.Laws.{Serves, CacheBetween, PutsOn}
 use Rattle.model.proofs.Routes.{route-ends, parent-before, route-up, by-route}
+use Rattle.model.proofs.Amounts.{relieved-is}
 use Rattle.model.proofs.Intervals.{below-self, below-after, below-other, below-parent, below-trans}
 use Rattle.model.proofs.Nearest.{distance-grows, serving-server, serving-up, price-falls, cost-is}
 use Rattle.model.proofs.Loads.{sent, bears, link-load-is}
@@ -131,11 +131,11 @@ module _ (t : Tree) (pre : Preorder t) (k : List ℕ) where
       puts c = bears t d pre k c false (route t c) v
 
       puts-on : (c : ℕ) → PutsOn t d k c v (puts c)
-      unfolding puts bears sent whole cachable met atOrBelow
+      unfolding puts bears sent whole met atOrBelow
       puts-on c =
           record {
             elsewhere = λ b. rw b;
-            relieved = λ a. rw (between-below c a, met-said c (between-below c a) .1 a) (sym (mul-sub (d .flow c) thousandths (d .hit c)));
+            relieved = λ a. rw (between-below c a, met-said c (between-below c a) .1 a) (relieved-is d c);
             whole = λ b none. rw (b, by-test (λ m. met c ≡ m → m ≡ false) (met c) (λ _ h. absurd (none (met-said c b .0 h))) (λ _ _. refl) refl);
           }
 

@@ -32,7 +32,7 @@ module _ (t : Tree) (d : Demand) (ok : Sound t d) where
   unfolding height
   height-bound = greatest-within (depth t) mostDepth (nodes t) (ok .shallow)
 
-  abbrev pub mostCost : ℕ
+  abbrev mostCost : ℕ
   mostCost = mostFlow * thousandths * (mostLength * mostDepth)
 
   pub whole-within : (c : ℕ) → whole d c ≤ mostFlow * thousandths

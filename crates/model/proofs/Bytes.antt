@@ -1,4 +1,5 @@
--- What is written as bytes is read back: a number, the header, and the fields of a record.
+-- What is written as bytes is read back: a number, the header, and the fields of a record. Nothing cites it yet: it is for 02,
+-- items 5 and 11.
 use mathlib.Core.Path.{_≡_, refl}
 use mathlib.Core.List.{List, [], _∷_, _++_, append-assoc}
 use Prim.Native.Nat.{ℕ, zero, suc, _+_, _/_, _%_, _^_, _<_}

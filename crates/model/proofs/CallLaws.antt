@@ -12,16 +12,16 @@ use lib.Seq.{getD-drop}
 use borrow.Author.Tests.{leb-true, le-leb, ltb-true}
 use Rattle.laws.proofs.Bools.{both}
 use Rattle.model.specs.File.{Tree, Demand, treeOf, demandOf}
-use Rattle.model.specs.Rules.{Verdict, longEnough}
+use Rattle.model.specs.Rules.{Verdict, passed, scratchWords, longEnough}
 use Rattle.model.specs.Bill.{total, linkTotal}
 use Rattle.model.specs.Ties.{ranksBefore}
 use Rattle.model.specs.Plan.{plan, planTotal}
 use Rattle.model.specs.Greedy.{greedyTotal}
-use Rattle.model.specs.Calls.{Winner, named, first, second, rankVerdict, ranking, planBuffersLong, greedyBuffersLong}
+use Rattle.model.specs.Calls.{ScratchAfter, Winner, named, first, second, rankVerdict, ranking, planBuffersLong, greedyBuffersLong}
 use Rattle.model.specs.Report.{HoldsOptimum}
 use Rattle.model.specs.Hosts.{codeUnit, codeOf}
 use Rattle.model.specs.Laws.{RanksFirst}
-use Rattle.model.specs.CallLaws.{RankingSaid, CodeSaid, CallsLawful}
+use Rattle.model.specs.CallLaws.{RankingSaid, CodeSaid, StaysFrom, CallsLawful}
 use Rattle.model.proofs.Verdicts.{answered-passed, refused-broken}
 use Rattle.model.proofs.Order.{smaller-said}
 use Rattle.model.proofs.Plans.{only-plan}
@@ -94,6 +94,9 @@ same-from m old new e i h =
     let there : m + (i - m) ≡ i = omega arith in
     rw (← there) (sym (getD-drop m new (i - m) 0) ∙ ap (λ l. getD l (i - m) 0) e ∙ getD-drop m old (i - m) 0)
 
+stays-from : (words : ℕ) (old new : List ℕ) → ScratchAfter passed words old new → StaysFrom words old new
+stays-from words old new h = (h .0, same-from words old new (h .1))
+
 -- ---- demand 3
 
 module _ (t : Tree) (d : Demand) (b : ℕ) where
@@ -132,7 +135,9 @@ calls-lawful file =
       greedyFits = λ totals nodes. both-fit totals nodes (length-greedy-totals file) (length-greedy-row file);
       demandMet = λ memory memory′ c. c .demandThree refl;
       reportFits = λ memory. (both (planBuffersLong file (memory .planTotals) (memory .planRows)) (greedyBuffersLong file (memory .greedyTotals) (memory .greedyNodes)), λ h. rw (h .0, h .1));
-      scratchStays = λ words old new h. (h .0, same-from words old new (h .1));
+      planFrees = λ memory memory′ c. stays-from (scratchWords file) (memory .scratch) (memory′ .scratch) (c .scratchAfter);
+      greedyFrees = λ memory memory′ c. stays-from (scratchWords file) (memory .scratch) (memory′ .scratch) (c .scratchAfter);
+      reportFrees = λ memory memory′ c. stays-from (scratchWords file) (memory .scratch) (memory′ .scratch) (c .scratchAfter);
       scratchKept = λ words q i old new h. h;
       demandSettles = λ memory h b l. only-optimum (treeOf file) (demandOf file) b _ _ _ (h b l);
       decimalsRead = decimal-reads;

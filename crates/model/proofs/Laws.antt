@@ -15,6 +15,7 @@ use Rattle.model.proofs.Nearest.{distance-grows, cost-is}
 use Rattle.model.proofs.Loads.{links-total}
 use Rattle.model.proofs.BillLaws.{serving-serves, only-serving, cost-least, cost-reached, load-said}
 use Rattle.model.proofs.Bounds.{total-bound}
+use Rattle.model.proofs.Ascending.{set-ascends}
 use Rattle.model.proofs.Sets.{all-sets}
 use Rattle.model.proofs.Order.{rank-irreflexive, rank-transitive, rank-total, ties-said}
 use Rattle.model.proofs.Plans.{plan-ranks-first, only-plan}
@@ -36,7 +37,7 @@ lawful file fits =
       allSetsExact = all-sets t;
       rankIrreflexive = rank-irreflexive t d;
       rankTransitive = rank-transitive t d;
-      rankTotal = rank-total t d;
+      rankTotal = λ k l g h. rank-total t d k l (set-ascends t k g) (set-ascends t l h);
       planFirst = plan-ranks-first t d;
       planOnly = only-plan t d;
       totalsSmall = total-bound t d ok;

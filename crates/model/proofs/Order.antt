@@ -15,10 +15,10 @@ use Rattle.laws.proofs.Bools.{not-both, both, either, one-passes, bit-same, bit
 use Rattle.laws.proofs.Lists.{has-cases, has-none, in-range}
 use Rattle.model.specs.File.{Tree, Demand}
 use Rattle.model.specs.Tree.{sites, atOrBelow}
-use Rattle.model.specs.Rules.{isSet}
+use Rattle.model.specs.Rules.{ascends}
 use Rattle.model.specs.Ties.{smallerFirst, havingFirst, members, visits, tiesBefore, ranksBefore}
 use Rattle.model.specs.Laws.{Alike, Ahead, Decides}
-use Rattle.model.proofs.Ascending.{same-members, set-ascends}
+use Rattle.model.proofs.Ascending.{same-members}
 
 -- ---- the smaller number first, then the rest
 
@@ -161,16 +161,16 @@ module _ (t : Tree) (d : Demand) where
   unfolding ranksBefore tiesBefore
   rank-transitive k l m = smaller-transitive _ _ _ (smaller-transitive _ _ _ (visits-transitive t k l m (sites t)))
 
-  -- two sets of which neither ranks before the other are one
-  rank-neither : (k l : List ℕ) → isSet t k ≡ true → isSet t l ≡ true
+  -- two ascending lists of nodes of which neither ranks before the other are one
+  rank-neither : (k l : List ℕ) → ascends 0 (t .count) k ≡ true → ascends 0 (t .count) l ≡ true
       → ranksBefore t d k l ≡ false → ranksBefore t d l k ≡ false → k ≡ l
   unfolding ranksBefore tiesBefore
   rank-neither k l g h p q =
       let totals = smaller-neither p q in
       let sizes = smaller-neither (totals .1) (totals .2) in
-      same-members (t .count) 0 k l (set-ascends t k g) (set-ascends t l h)
+      same-members (t .count) 0 k l g h
       (λ v i j. visits-neither t k l (sites t) (sizes .1) (sizes .2) v (in-range 1 (t .count - 1) v i (omega arith)))
 
-  pub rank-total : (k l : List ℕ) → isSet t k ≡ true → isSet t l ≡ true → (k ≡ l → ⊥)
+  pub rank-total : (k l : List ℕ) → ascends 0 (t .count) k ≡ true → ascends 0 (t .count) l ≡ true → (k ≡ l → ⊥)
       → (ranksBefore t d k l ≡ true) ⊎ (ranksBefore t d l k ≡ true)
   rank-total k l g h n = one-passes (ranksBefore t d k l) (ranksBefore t d l k) (λ p q. n (rank-neither k l g h p q))

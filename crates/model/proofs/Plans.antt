@@ -15,7 +15,7 @@ use Rattle.model.specs.Ties.{tiesBefore, ranksBefore}
 use Rattle.model.specs.Plan.{allSets, firstOf, plan, planTotal}
 use Rattle.model.specs.Laws.{RanksFirst}
 use Rattle.model.proofs.Order.{smaller-said, rank-irreflexive, rank-transitive, rank-total}
-use Rattle.model.proofs.Ascending.{empty-is-set}
+use Rattle.model.proofs.Ascending.{set-ascends, empty-is-set}
 use Rattle.model.proofs.Sets.{all-sets}
 
 module _ (t : Tree) (d : Demand) where
@@ -41,7 +41,7 @@ module _ (t : Tree) (d : Demand) where
         inl refl,
         elim (List-discrete ℕ-discrete k l) [
           | yes e ↦ inl e
-          | no n ↦ ⊎-elim inr (λ q. absurd (not-both q p)) (rank-total t d k l g h n)
+          | no n ↦ ⊎-elim inr (λ q. absurd (not-both q p)) (rank-total t d k l (set-ascends t k g) (set-ascends t l h) n)
         ],
       ))
 

@@ -35,4 +35,5 @@ pub record Sound (t : Tree) (d : Demand) : Type 0 where
   pub shallow : (v : ℕ) → depth t v ≤ mostDepth
   pub short : (v : ℕ) → t .linkLength v ≤ mostLength
   pub flow : (v : ℕ) → d .flow v ≤ mostFlow
+  -- no more is cachable than is asked for
   pub part : (v : ℕ) → cachable d v ≤ whole d v

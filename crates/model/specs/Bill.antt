@@ -23,11 +23,11 @@ upTo v (u ∷ us) = let r = upTo v us in u ∷ cond (eqb u v) [] r
 -- ---- what a client asks for, in thousandths
 
 module _ (d : Demand) (c : ℕ) where
-  -- all of it
+  -- all of it: f × 1,000
   unfoldable pub whole : ℕ
   whole = d .flow c * thousandths
 
-  -- the part of it that a cache can serve
+  -- the part of it that a cache can serve: f × p
   unfoldable pub cachable : ℕ
   cachable = d .flow c * d .hit c
 

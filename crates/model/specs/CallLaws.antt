@@ -8,12 +8,12 @@ use mathlib.Core.Logic.{_↔_}
 use Prim.Native.Nat.{ℕ, _+_, _*_, _-_, _/_, _%_, _≤_}
 use lib.ListN.{length, getD}
 use Rattle.model.specs.File.{treeOf, demandOf, budgetOf}
-use Rattle.model.specs.Rules.{Verdict, passed, broken}
+use Rattle.model.specs.Rules.{Verdict, passed, broken, scratchWords}
 use Rattle.model.specs.Bill.{linkTotal}
 use Rattle.model.specs.Ties.{ranksBefore}
 use Rattle.model.specs.Plan.{plan, planTotal}
 use Rattle.model.specs.Greedy.{greedyTotal}
-use Rattle.model.specs.Calls.{answered, refused, first, second, ScratchAfter, billBuffersLong, servingNodes, linkLoads, rankVerdict, ranking, winner, planTotals, planRows, planBuffersLong, PlanMemory, planVerdict, greedyTotals, greedyRow, greedyBuffersLong, GreedyMemory, greedyVerdict}
+use Rattle.model.specs.Calls.{answered, refused, first, second, ScratchAfter, billBuffersLong, servingNodes, linkLoads, rankVerdict, ranking, winner, planTotals, planRows, planBuffersLong, PlanMemory, planVerdict, PlanCall, greedyTotals, greedyRow, greedyBuffersLong, GreedyMemory, greedyVerdict, GreedyCall}
 use Rattle.model.specs.Report.{setOfRow, ReportMemory, DemandThree, reportBuffersLong, reportVerdict, ReportCall, digit, decimal}
 use Rattle.model.specs.Hosts.{codeOf, HostBillMemory, hostBillVerdict}
 
@@ -36,6 +36,10 @@ pub record RankingSaid (file k l : List ℕ) : Type 0 where
 pub record CodeSaid (v : Verdict) : Type 0 where
   pub none : codeOf v ≡ 0 ↔ v ≡ passed
   pub some : (q i : ℕ) → v ≡ broken q i → (codeOf v % 256 ≡ q) × (codeOf v / 256 ≡ i)
+
+-- the entries from index `words` on and the length stay
+abbrev pub StaysFrom : ℕ → List ℕ → List ℕ → Type 0
+StaysFrom words old new = (length new ≡ length old) × ((i : ℕ) → words ≤ i → getD new i 0 ≡ getD old i 0)
 
 -- the number that a text of digits stands for, after a number x already read
 unfoldable pub readAfter : ℕ → List ℕ → ℕ
@@ -60,9 +64,13 @@ pub record CallsLawful (file : List ℕ) : Type 0 where
   pub reportFits : (memory : ReportMemory) → reportBuffersLong file memory ≡ true
       ↔ ((planBuffersLong file (memory .planTotals) (memory .planRows) ≡ true)
       × (greedyBuffersLong file (memory .greedyTotals) (memory .greedyNodes) ≡ true))
-  -- "Only scratch after an accepted call is free": its first words; the others and the length stay, and a refusal keeps all
-  pub scratchStays : (words : ℕ) (old new : List ℕ) → ScratchAfter passed words old new
-      → (length new ≡ length old) × ((i : ℕ) → words ≤ i → getD new i 0 ≡ getD old i 0)
+  -- "Only scratch after an accepted call is free": the words that question 13 asks for; and a refusal keeps all
+  pub planFrees : (memory memory′ : PlanMemory) → PlanCall file memory passed memory′
+      → StaysFrom (scratchWords file) (memory .scratch) (memory′ .scratch)
+  pub greedyFrees : (memory memory′ : GreedyMemory) → GreedyCall file memory passed memory′
+      → StaysFrom (scratchWords file) (memory .scratch) (memory′ .scratch)
+  pub reportFrees : (memory memory′ : ReportMemory) → ReportCall file memory passed memory′
+      → StaysFrom (scratchWords file) (memory .scratch) (memory′ .scratch)
   pub scratchKept : (words q i : ℕ) (old new : List ℕ) → ScratchAfter (broken q i) words old new → new ≡ old
   -- the report call meets demand 3
   pub demandMet : (memory memory′ : ReportMemory) → ReportCall file memory passed memory′ → DemandThree file memory′

@@ -31,8 +31,7 @@ abbrev pub after : Verdict → List ℕ → List ℕ → List ℕ
 after passed written old = written ++ drop (length written) old
 after (broken q i) written old = old
 
--- the scratch after a call: the words that question 13 asks for are free, the words beyond them and the length stay; a
--- refusal changes nothing
+-- the scratch after a call: its first `words` words are free, the others and the length stay; a refusal changes nothing
 abbrev pub ScratchAfter : Verdict → ℕ → List ℕ → List ℕ → Type 0
 ScratchAfter passed words old new = (length new ≡ length old) × (drop words new ≡ drop words old)
 ScratchAfter (broken q i) words old new = new ≡ old

@@ -9,6 +9,6 @@ use Rattle.model.specs.Bill.{whole, cachable}
 abbrev pub childOf : Tree → ℕ → ℕ → Bool
 childOf t v u = eqb (t .parent u) v
 
--- what the client at c sends over a link once a cache has served it
+-- what the client at c sends over a link once a cache has served it: the part that is not cachable
 abbrev pub relieved : Demand → ℕ → ℕ
 relieved d c = whole d c - cachable d c

@@ -52,7 +52,7 @@ countOf s = number 2 s 5
 abbrev pub budgetOf : List ℕ → ℕ
 budgetOf s = number 2 s 7
 
--- the bytes of a record: 10 in version 1
+-- how many bytes a record has: 10 in version 1
 unfoldable pub recordLength : List ℕ → ℕ
 recordLength s = 10
 

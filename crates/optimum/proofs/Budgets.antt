@@ -23,7 +23,7 @@ use Rattle.model.proofs.Written.{length-plan-row}
 use Rattle.fields.specs.declared.Tree as code
 use Rattle.best_rows.specs.Least.{better, firstLeast}
 use Rattle.best_rows.specs.Best.{cap}
-use Rattle.best_rows.specs.Guarded.{free}
+use Rattle.best_rows.specs.Guarded.{mayBe}
 use Rattle.best_rows.specs.TreeRows.{firstChild}
 use Rattle.best_rows.specs.BestAt.{bestAt, bestNodes, leastCount}
 use Rattle.best_rows.proofs.Least.{better-cases, first-least-within}
@@ -74,8 +74,8 @@ module _ (t : Tree) (d : Demand) (allows : ℕ → Bool → Bool) where
 
 module _ {file : List ℕ} {sizes : code.Tree} {s : List ℕ} {b last : ℕ} (r : Budget file sizes s b last) where
   -- that many caches of the server's row are the plan, and cost its total
-  found : (bestNodes (treeOf file) (demandOf file) free (firstChild (treeOf file) 0) 0 (leastCount (treeOf file) (demandOf file) free b) ≡ plan (treeOf file) (demandOf file) b)
-      × (bestAt (treeOf file) (demandOf file) free (firstChild (treeOf file) 0) 0 (leastCount (treeOf file) (demandOf file) free b) ≡ planTotal (treeOf file) (demandOf file) b)
+  found : (bestNodes (treeOf file) (demandOf file) (mayBe (treeOf file)) (firstChild (treeOf file) 0) 0 (leastCount (treeOf file) (demandOf file) (mayBe (treeOf file)) b) ≡ plan (treeOf file) (demandOf file) b)
+      × (bestAt (treeOf file) (demandOf file) (mayBe (treeOf file)) (firstChild (treeOf file) 0) 0 (leastCount (treeOf file) (demandOf file) (mayBe (treeOf file)) b) ≡ planTotal (treeOf file) (demandOf file) b)
   found = optimum-found file (r .table .stored .room .accepted) b
 
   ok : Sound (treeOf file) (demandOf file)
@@ -92,7 +92,7 @@ module _ {file : List ℕ} {sizes : code.Tree} {s : List ℕ} {b last : ℕ} (r 
       rw (table-child (r .table) (ok .some) e) (room-place room (rw (room-count room) (served .node)) (omega arith), room-long room)
 
   abbrev serverBest : ℕ → ℕ
-  serverBest = bestAt (treeOf file) (demandOf file) free (firstChild (treeOf file) 0) 0
+  serverBest = bestAt (treeOf file) (demandOf file) (mayBe (treeOf file)) (firstChild (treeOf file) 0) 0
 
   module _ {child : ℕ} {l : List ℕ} (e : child ≡ wordOf s 0 childWord) (f : l ≡ lineIn sizes s child 0) where
     -- holds the least of that row for each count
@@ -105,13 +105,13 @@ module _ {file : List ℕ} {sizes : code.Tree} {s : List ℕ} {b last : ℕ} (r 
         let has : HasLine t first 0 = ⊎-elim (λ z. inl z) (λ w. inr (omega (arith, w .0))) (served .way) in
         rw (table-child (r .table) (ok .some) e) at f
         ∙ r .table .lines first 0 node (omega arith) has (inr (omega arith))
-        ∙ line-under t (demandOf file) free (width sizes) first 0 0 (inr (ancestor-server t (ok .preorder) first))
+        ∙ line-under t (demandOf file) (mayBe (treeOf file)) (width sizes) first 0 0 (inr (ancestor-server t (ok .preorder) first))
 
     wide : b < width sizes
     wide = omega (arith, table-budget (r .table), r .within)
 
     last-within : last ≤ b
-    last-within = omega (arith, r .counted, least-count-within (treeOf file) (demandOf file) free (b - 1))
+    last-within = omega (arith, r .counted, least-count-within (treeOf file) (demandOf file) (mayBe (treeOf file)) (b - 1))
 
     -- it has entries for both counts
     pub counts-there : (last < length l) × (b < length l)
@@ -121,14 +121,14 @@ module _ {file : List ℕ} {sizes : code.Tree} {s : List ℕ} {b last : ℕ} (r 
 
     module _ {count : ℕ} (c : count ≡ better (λ n. getD l n 0) last b) where
       -- the better of them by it is the count of budget b
-      pub count-found : count ≡ leastCount (treeOf file) (demandOf file) free b
+      pub count-found : count ≡ leastCount (treeOf file) (demandOf file) (mayBe (treeOf file)) b
       count-found =
           c
           ∙ better-by-line serverBest (width sizes) last b server-line (omega (arith, wide, last-within)) wide
-          ∙ rw (r .counted) (least-count-next (treeOf file) (demandOf file) free b)
+          ∙ rw (r .counted) (least-count-next (treeOf file) (demandOf file) (mayBe (treeOf file)) b)
 
       count-within : count ≤ b
-      count-within = rw count-found (least-count-within (treeOf file) (demandOf file) free b)
+      count-within = rw count-found (least-count-within (treeOf file) (demandOf file) (mayBe (treeOf file)) b)
 
       pub count-there : count < length l
       count-there = omega (arith, count-within, counts-there .1)
@@ -144,7 +144,7 @@ module _ {file : List ℕ} {sizes : code.Tree} {s : List ℕ} {b last : ℕ} (r 
 
       -- the server's row can have that many caches, and there is room for the row of the answer
       pub budget-row : {totals rows : List ℕ} → Buffers file totals rows
-          → RowToWalk file free sizes s (firstChild (treeOf file) 0) 0 count (b * sizes .budget) rows × (b * sizes .budget + sizes .budget ≤ length rows)
+          → RowToWalk file (mayBe (treeOf file)) sizes s (firstChild (treeOf file) 0) 0 count (b * sizes .budget) rows × (b * sizes .budget + sizes .budget ≤ length rows)
       unfolding cap
       budget-row {rows = rows} long =
           let t = treeOf file in
@@ -166,7 +166,7 @@ module _ {file : List ℕ} {sizes : code.Tree} {s : List ℕ} {b last : ℕ} (r 
 
       -- what is written there is the plan's row
       pub row-found : (rows : List ℕ) (at : ℕ) {l : List ℕ}
-          → l ≡ sets rows at (row (sizes .budget) (bestNodes (treeOf file) (demandOf file) free (firstChild (treeOf file) 0) 0 count))
+          → l ≡ sets rows at (row (sizes .budget) (bestNodes (treeOf file) (demandOf file) (mayBe (treeOf file)) (firstChild (treeOf file) 0) 0 count))
           → l ≡ sets rows at (planRow file b)
       row-found rows at e = rw (table-budget (r .table), count-found, found .0) at e
 
@@ -209,15 +209,15 @@ module _ {file totals rows : List ℕ} where
   }
 
   module _ {b last : ℕ} {totals′ rows′ : List ℕ} (p : Planned file totals rows b last totals′ rows′) where
-    pub plan-budget : {sizes : code.Tree} {s : List ℕ} → Table file free sizes s → b ≤ sizes .budget → Budget file sizes s b last
+    pub plan-budget : {sizes : code.Tree} {s : List ℕ} → Table file (mayBe (treeOf file)) sizes s → b ≤ sizes .budget → Budget file sizes s b last
     plan-budget t h = record { table = t; within = rw (table-budget t) at h; counted = p .counted }
 
     pub plan-buffers : Buffers file totals rows → Buffers file totals′ rows′
     plan-buffers long = record { totalsLong = rw (p .totalsLong) (long .totalsLong); rowsLong = rw (p .rowsLong) (long .rowsLong) }
 
     -- budget b written
-    pub plan-turns : {sizes : code.Tree} {s : List ℕ} {count : ℕ} {t r : List ℕ} → Table file free sizes s → b ≤ sizes .budget
-        → count ≡ leastCount (treeOf file) (demandOf file) free b
+    pub plan-turns : {sizes : code.Tree} {s : List ℕ} {count : ℕ} {t r : List ℕ} → Table file (mayBe (treeOf file)) sizes s → b ≤ sizes .budget
+        → count ≡ leastCount (treeOf file) (demandOf file) (mayBe (treeOf file)) b
         → t ≡ set totals′ b (planTotal (treeOf file) (demandOf file) b) → r ≡ sets rows′ (b * sizes .budget) (planRow file b)
         → length t ≡ length totals′ → length r ≡ length rows′
         → Planned file totals rows (b + 1) count t r
@@ -234,7 +234,7 @@ module _ {file totals rows : List ℕ} where
         }
 
     -- after the last budget the plan is written
-    pub plan-ends : {sizes : code.Tree} {s : List ℕ} → Table file free sizes s → sizes .budget < b
+    pub plan-ends : {sizes : code.Tree} {s : List ℕ} → Table file (mayBe (treeOf file)) sizes s → sizes .budget < b
         → (totals′ ≡ sets totals 0 (planTotals file)) × (rows′ ≡ sets rows 0 (planRows file))
     unfolding planTotals planRows
     plan-ends {sizes} table h =

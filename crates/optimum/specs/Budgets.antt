@@ -8,7 +8,7 @@ use Rattle.laws.specs.Lists.{range}
 use Rattle.model.specs.File.{treeOf, demandOf, budgetOf}
 use Rattle.model.specs.Plan.{plan, planTotal, row}
 use Rattle.fields.specs.declared.Tree as code
-use Rattle.best_rows.specs.Guarded.{free}
+use Rattle.best_rows.specs.Guarded.{mayBe}
 use Rattle.best_rows.specs.BestAt.{leastCount}
 use Rattle.table.specs.Table.{Table}
 
@@ -18,9 +18,9 @@ planRow file b = row (budgetOf file) (plan (treeOf file) (demandOf file) b)
 
 -- what budget b is written from: the table, and how many caches the budget before it has
 pub record Budget (file : List ℕ) (sizes : code.Tree) (s : List ℕ) (b last : ℕ) : Type 0 where
-  pub table : Table file free sizes s
+  pub table : Table file (mayBe (treeOf file)) sizes s
   pub within : b ≤ budgetOf file
-  pub counted : last ≡ leastCount (treeOf file) (demandOf file) free (b - 1)
+  pub counted : last ≡ leastCount (treeOf file) (demandOf file) (mayBe (treeOf file)) (b - 1)
 
 -- the buffers are long enough for every budget
 pub record Buffers (file totals rows : List ℕ) : Type 0 where
@@ -30,7 +30,7 @@ pub record Buffers (file totals rows : List ℕ) : Type 0 where
 -- the budgets before b are written
 pub record Planned (file : List ℕ) (totals rows : List ℕ) (b last : ℕ) (totals′ rows′ : List ℕ) : Type 0 where
   pub within : b ≤ budgetOf file + 1
-  pub counted : last ≡ leastCount (treeOf file) (demandOf file) free (b - 1)
+  pub counted : last ≡ leastCount (treeOf file) (demandOf file) (mayBe (treeOf file)) (b - 1)
   pub totalsLong : length totals′ ≡ length totals
   pub rowsLong : length rows′ ≡ length rows
   pub totalsAfter : totals′ ≡ sets totals 0 (map (planTotal (treeOf file) (demandOf file)) (range 0 b))

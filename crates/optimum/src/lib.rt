@@ -12,7 +12,7 @@ ghost use Rattle.model.specs.Plan.{planTotal, row};
 ghost use Rattle.model.specs.Calls.{planTotals, planRows, PlanCall};
 ghost use Rattle.tree_file.specs.Checks.{verdictOf};
 ghost use Rattle.best_rows.specs.Least.{better};
-ghost use Rattle.best_rows.specs.Guarded.{free};
+ghost use Rattle.best_rows.specs.Guarded.{mayBe};
 ghost use Rattle.best_rows.specs.TreeRows.{firstChild};
 ghost use Rattle.best_rows.specs.BestAt.{bestNodes, leastCount, takesNode, laterAt};
 ghost use Rattle.table.specs.Table.{TableRoom, Table};
@@ -43,9 +43,9 @@ fn most_below(x: usize, sibling: usize, m: usize) -> usize
 
 // How the m caches of the row that begins with x split, where `serving` is the serving node above it.
 fn split_of(file: &[u8], tree: fields::Tree, s: &[u64], x: usize, serving: usize, m: usize) -> Split
-    requires { ⌜ RowToSplit (now file) free tree (now s) x serving m ⌝ }
-    ensures { λ r. ⌜ r .later ≡ laterAt (treeOf (now (file .entry))) (demandOf (now (file .entry))) free x serving m ⌝ }
-    ensures { λ r. ⌜ r .member ≡ takesNode (treeOf (now (file .entry))) (demandOf (now (file .entry))) free x serving (m - r .later) ⌝ }
+    requires { ⌜ RowToSplit (now file) (mayBe (treeOf (now file))) tree (now s) x serving m ⌝ }
+    ensures { λ r. ⌜ r .later ≡ laterAt (treeOf (now (file .entry))) (demandOf (now (file .entry))) (mayBe (treeOf (now (file .entry)))) x serving m ⌝ }
+    ensures { λ r. ⌜ r .member ≡ takesNode (treeOf (now (file .entry))) (demandOf (now (file .entry))) (mayBe (treeOf (now (file .entry)))) x serving (m - r .later) ⌝ }
 {
     let above = node_words::depth_word(s, serving);
     let child = node_words::child_of(s, x);
@@ -75,9 +75,9 @@ fn walk_node(
     member: bool,
     at: usize,
 ) -> usize
-    requires { ⌜ NodeToWalk (now file) free tree (now s) x serving n member at (now rows) ⌝ }
+    requires { ⌜ NodeToWalk (now file) (mayBe (treeOf (now file))) tree (now s) x serving n member at (now rows) ⌝ }
     ensures { λ r. ⌜ r ≡ at + n ⌝ }
-    ensures { λ _. ⌜ now (rows .exit) ≡ sets (now (rows .entry)) at (nodesFrom (treeOf (now (file .entry))) (demandOf (now (file .entry))) free x serving n) ⌝ }
+    ensures { λ _. ⌜ now (rows .exit) ≡ sets (now (rows .entry)) at (nodesFrom (treeOf (now (file .entry))) (demandOf (now (file .entry))) (mayBe (treeOf (now (file .entry)))) x serving n) ⌝ }
 {
     let child = node_words::child_of(s, x);
     if member {
@@ -98,9 +98,9 @@ fn walk_row(
     count: usize,
     start: usize,
 ) -> usize
-    requires { ⌜ RowToWalk (now file) free tree (now s) first serving count start (now rows) ⌝ }
+    requires { ⌜ RowToWalk (now file) (mayBe (treeOf (now file))) tree (now s) first serving count start (now rows) ⌝ }
     ensures { λ r. ⌜ r ≡ start + count ⌝ }
-    ensures { λ _. ⌜ now (rows .exit) ≡ sets (now (rows .entry)) start (bestNodes (treeOf (now (file .entry))) (demandOf (now (file .entry))) free first serving count) ⌝ }
+    ensures { λ _. ⌜ now (rows .exit) ≡ sets (now (rows .entry)) start (bestNodes (treeOf (now (file .entry))) (demandOf (now (file .entry))) (mayBe (treeOf (now (file .entry)))) first serving count) ⌝ }
 {
     let mut x = first;
     let mut m = count;
@@ -145,9 +145,9 @@ fn clear(rows: &mut [u16], start: usize, end: usize)
 
 // Writes a row of the answer from `at` on: the m caches of the server's row, then zeros.
 fn write_row(file: &[u8], tree: fields::Tree, s: &[u64], rows: &mut [u16], m: usize, at: usize)
-    requires { ⌜ RowToWalk (now file) free tree (now s) (firstChild (treeOf (now file)) 0) 0 m at (now rows) ⌝ }
+    requires { ⌜ RowToWalk (now file) (mayBe (treeOf (now file))) tree (now s) (firstChild (treeOf (now file)) 0) 0 m at (now rows) ⌝ }
     requires { ⌜ at + tree .budget ≤ length (now rows) ⌝ }
-    ensures { λ _. ⌜ now (rows .exit) ≡ sets (now (rows .entry)) at (row (tree .budget) (bestNodes (treeOf (now (file .entry))) (demandOf (now (file .entry))) free (firstChild (treeOf (now (file .entry))) 0) 0 m)) ⌝ }
+    ensures { λ _. ⌜ now (rows .exit) ≡ sets (now (rows .entry)) at (row (tree .budget) (bestNodes (treeOf (now (file .entry))) (demandOf (now (file .entry))) (mayBe (treeOf (now (file .entry)))) (firstChild (treeOf (now (file .entry))) 0) 0 m)) ⌝ }
 {
     let end = walk_row(file, tree, s, rows, node_words::child_of(s, 0), 0, m, at);
     clear(rows, end, at + tree.budget);
@@ -165,7 +165,7 @@ fn write_budget(
 ) -> usize
     requires { ⌜ Budget (now file) tree (now s) b last ⌝ }
     requires { ⌜ Buffers (now file) (now totals) (now rows) ⌝ }
-    ensures { λ r. ⌜ r ≡ leastCount (treeOf (now (file .entry))) (demandOf (now (file .entry))) free b ⌝ }
+    ensures { λ r. ⌜ r ≡ leastCount (treeOf (now (file .entry))) (demandOf (now (file .entry))) (mayBe (treeOf (now (file .entry)))) b ⌝ }
     ensures { λ _. ⌜ now (totals .exit) ≡ set (now (totals .entry)) b (planTotal (treeOf (now (file .entry))) (demandOf (now (file .entry))) b) ⌝ }
     ensures { λ _. ⌜ now (rows .exit) ≡ sets (now (rows .entry)) (b * tree .budget) (planRow (now (file .entry)) b) ⌝ }
 {
@@ -178,7 +178,7 @@ fn write_budget(
 
 // Writes every budget.
 fn write_plan(file: &[u8], tree: fields::Tree, s: &[u64], totals: &mut [u64], rows: &mut [u16])
-    requires { ⌜ Table (now file) free tree (now s) ⌝ }
+    requires { ⌜ Table (now file) (mayBe (treeOf (now file))) tree (now s) ⌝ }
     requires { ⌜ Buffers (now file) (now totals) (now rows) ⌝ }
     ensures { λ _. ⌜ now (totals .exit) ≡ sets (now (totals .entry)) 0 (planTotals (now (file .entry))) ⌝ }
     ensures { λ _. ⌜ now (rows .exit) ≡ sets (now (rows .entry)) 0 (planRows (now (file .entry))) ⌝ }

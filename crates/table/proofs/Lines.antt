@@ -18,7 +18,7 @@ use Rattle.model.specs.Bill.{price}
 use Rattle.model.specs.Accepted.{Sound}
 use Rattle.best_rows.specs.Rows.{rowSize}
 use Rattle.best_rows.specs.Best.{cap}
-use Rattle.best_rows.specs.Guarded.{guarded}
+use Rattle.best_rows.specs.Guarded.{guarded, mayBe}
 use Rattle.best_rows.specs.TreeRows.{firstChild, nextSibling, rowAt}
 use Rattle.best_rows.specs.BestAt.{one, prefer, site, bestAt, payAt, childrenAt, siblingsAt, nodeBestAt}
 use Rattle.best_rows.proofs.TreeRows.{row-at-none}
@@ -28,6 +28,16 @@ use Rattle.lines.specs.Line.{LineParts, RowBounds, lineBest, emptyBest, LinesHo
 use Rattle.lines.proofs.HeldBest.{held-parts, held-bounds, held-line, empty-is-best}
 use Rattle.table.specs.Table.{lineFor, Served}
 use Rattle.table.proofs.Prices.{price-within-cap}
+
+-- what the code works out at v is what v pays, since v may be a cache and none
+module _ (t : Tree) (d : Demand) (v u : ℕ) {x : ℕ} where
+  pub pays-itself : x ≡ price t d v v → x ≡ payAt t d (mayBe t) v u true
+  unfolding mayBe
+  pays-itself e = e
+
+  pub pays-above : x ≡ price t d v u → x ≡ payAt t d (mayBe t) v u false
+  unfolding mayBe
+  pays-above e = e
 
 module _ (t : Tree) (d : Demand) (allows : ℕ → Bool → Bool) where
   best-at-empty : (c m : ℕ) → bestAt t d allows 0 c m ≡ emptyBest m

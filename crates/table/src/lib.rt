@@ -6,7 +6,7 @@ ghost use lib.ListN.{length};
 ghost use lib.Seq.{sets};
 ghost use Rattle.model.specs.File.{treeOf, demandOf};
 ghost use Rattle.model.specs.Bill.{price};
-ghost use Rattle.best_rows.specs.Guarded.{free};
+ghost use Rattle.best_rows.specs.Guarded.{mayBe};
 ghost use Rattle.node_words.specs.RowNodes.{RowNodes};
 ghost use Rattle.lines.specs.Line.{mostWidth};
 ghost use Rattle.table.specs.Table.{width, lineNumber, lineAt, tableEnd, InTable, lineIn, lineFor, TableRoom, NodeWordsStored, LinesFilled, TableFrom, Served, Client, EmptyTo};
@@ -66,10 +66,10 @@ fn fill_one(
     a: usize,
     u: usize,
 )
-    requires { ⌜ TableFrom (now file) free tree (now s) (lineNumber tree v a + 1) ⌝ }
+    requires { ⌜ TableFrom (now file) (mayBe (treeOf (now file))) tree (now s) (lineNumber tree v a + 1) ⌝ }
     requires { ⌜ RowNodes (treeOf (now file)) (now counts) ⌝ }
     requires { ⌜ Served (treeOf (now file)) v a u ⌝ }
-    ensures { λ _. ⌜ now (s .exit) ≡ sets (now (s .entry)) (lineAt tree v a) (lineFor (treeOf (now (file .entry))) (demandOf (now (file .entry))) free (width tree) v a) ⌝ }
+    ensures { λ _. ⌜ now (s .exit) ≡ sets (now (s .entry)) (lineAt tree v a) (lineFor (treeOf (now (file .entry))) (demandOf (now (file .entry))) (mayBe (treeOf (now (file .entry)))) (width tree) v a) ⌝ }
 {
     let old = &s[..];
     let child = node_words::child_of(old, v);
@@ -109,9 +109,9 @@ fn fill_empty(tree: fields::Tree, s: &mut [u64])
 // Stores the lines of node v, for each node above it as the serving node, from its parent up to the server.
 fn fill_node(file: &[u8], tree: fields::Tree, s: &mut [u64], counts: &[usize], v: usize)
     requires { ⌜ (0 < v) × (v < tree .nodes) ⌝ }
-    requires { ⌜ TableFrom (now file) free tree (now s) (lineNumber tree (v + 1) 0) ⌝ }
+    requires { ⌜ TableFrom (now file) (mayBe (treeOf (now file))) tree (now s) (lineNumber tree (v + 1) 0) ⌝ }
     requires { ⌜ RowNodes (treeOf (now file)) (now counts) ⌝ }
-    ensures { λ _. ⌜ LinesFilled (now (file .entry)) free tree (lineNumber tree v 0) (now (s .entry)) (now (s .exit)) ⌝ }
+    ensures { λ _. ⌜ LinesFilled (now (file .entry)) (mayBe (treeOf (now (file .entry)))) tree (lineNumber tree v 0) (now (s .entry)) (now (s .exit)) ⌝ }
 {
     let mut a = node_words::depth_word(s, v);
     let mut u = v;
@@ -126,7 +126,7 @@ fn fill_node(file: &[u8], tree: fields::Tree, s: &mut [u64], counts: &[usize], v
 fn fill_table(file: &[u8], tree: fields::Tree, s: &mut [u64], counts: &[usize])
     requires { ⌜ NodeWordsStored (now file) tree (now s) ⌝ }
     requires { ⌜ RowNodes (treeOf (now file)) (now counts) ⌝ }
-    ensures { λ _. ⌜ LinesFilled (now (file .entry)) free tree 0 (now (s .entry)) (now (s .exit)) ⌝ }
+    ensures { λ _. ⌜ LinesFilled (now (file .entry)) (mayBe (treeOf (now (file .entry)))) tree 0 (now (s .entry)) (now (s .exit)) ⌝ }
 {
     fill_empty(tree, s);
     let mut v = tree.nodes;
@@ -139,7 +139,7 @@ fn fill_table(file: &[u8], tree: fields::Tree, s: &mut [u64], counts: &[usize])
 // Stores the words of the nodes and all lines of the plan's table, and changes nothing behind them.
 pub fn make_table(file: &[u8], tree: fields::Tree, s: &mut [u64])
     requires { ⌜ TableRoom (now file) tree (now s) ⌝ }
-    ensures { λ _. ⌜ LinesFilled (now (file .entry)) free tree 0 (now (s .entry)) (now (s .exit)) ⌝ }
+    ensures { λ _. ⌜ LinesFilled (now (file .entry)) (mayBe (treeOf (now (file .entry)))) tree 0 (now (s .entry)) (now (s .exit)) ⌝ }
 {
     node_words::note_nodes(file, tree.nodes, s);
     let counts = node_words::row_nodes(s, tree.nodes);

@@ -17,7 +17,6 @@ add-at : tie.Need-add-at
 add-at c = search needs
 
 add-at-2 : tie.Need-add-at-2
-unfolding recordLength
 add-at-2 c = omega (arith, placed-row (c .before .before .before .args .file .now) _ _ (c .before .row-of .ensures) (c .before .before .before .pre .0) .inside)
 
 number-at-requires : tie.Need-number-at-requires

@@ -7,7 +7,7 @@ use lib.ListN.{length-set}
 use borrow.Fn.Kinds.{In}
 use borrow.Fn.PlainCycle.{Measures, is, falls, and}
 use Rattle.model.specs.File.{treeOf}
-use Rattle.best_rows.specs.Guarded.{free}
+use Rattle.best_rows.specs.Guarded.{mayBe}
 use Rattle.best_rows.specs.TreeRows.{firstChild, rowAt}
 use Rattle.best_rows.specs.Rows.{rowSize}
 use Rattle.node_words.proofs.child_of.Reads as child-of-reads
@@ -107,7 +107,7 @@ walk-node-returns-2 t c = (
 )
 
 abbrev walk-row-Inv-loop : walk-row-lts.InvT-loop
-walk-row-Inv-loop file tree s rows₀ first serving count start x₀ m₀ at₀ rows x m at = Walked file free tree s serving first count start rows₀ x m at rows
+walk-row-Inv-loop file tree s rows₀ first serving count start x₀ m₀ at₀ rows x m at = Walked file (mayBe (treeOf file)) tree s serving first count start rows₀ x m at rows
 
 abbrev walk-row-μ-loop : walk-row-lts.MeasureT-loop
 walk-row-μ-loop file tree s rows₀ first serving count start x₀ m₀ at₀ rows x m at = rowSize (rowAt (treeOf file) x)

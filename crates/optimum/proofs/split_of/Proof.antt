@@ -1,11 +1,14 @@
 -- `split_of`: how the m caches of the row that begins with x split, where `serving` is the serving node above it.
+use mathlib.Core.Path.{_≡_}
+use mathlib.Core.Bool.{true, false}
 use native.Mathlib.Omega.{arith}
 use borrow.Author.Needs.{needs}
 use Rattle.model.specs.File.{treeOf, demandOf}
-use Rattle.best_rows.specs.Guarded.{free}
-use Rattle.best_rows.specs.BestAt.{childrenAt, siblingsAt}
+use Rattle.best_rows.specs.Guarded.{mayBe}
+use Rattle.best_rows.specs.BestAt.{payAt, childrenAt, siblingsAt}
 use Rattle.lines.specs.Line.{LinesHoldBest}
 use Rattle.table.specs.Table.{width, Served}
+use Rattle.table.proofs.Lines.{pays-itself, pays-above}
 use Rattle.table.proofs.Reading.{served-room, children-place, own-place, siblings-place, served-itself, served-above-it, lines-hold-best}
 use Rattle.optimum.proofs.Splits.{serving-stands, split-served, split-parts, split-bound, split-later, split-fits, split-node-parts, split-member}
 use Rattle.optimum.proofs.split_of.Statement.{statement}
@@ -31,7 +34,7 @@ served c = split-served (start c .pre) (c .depth-word .ensures)
 held : (c : tie.After-line3) → let a = start (depth-read c) .args in
     let t = treeOf (a .file .now) in
     let d = demandOf (a .file .now) in
-    LinesHoldBest (width (a .tree)) (childrenAt t d free (a .x) (a .serving)) (siblingsAt t d free (a .x) (a .serving)) (c .before .before .before .line .result .now) (c .before .before .line2 .result .now) (c .line3 .result .now)
+    LinesHoldBest (width (a .tree)) (childrenAt t d (mayBe t) (a .x) (a .serving)) (siblingsAt t d (mayBe t) (a .x) (a .serving)) (c .before .before .before .line .result .now) (c .before .before .line2 .result .now) (c .line3 .result .now)
 held c =
     let next = c .before in
     let uncached = next .before in
@@ -40,6 +43,17 @@ held c =
     let first = deep .before in
     lines-hold-best (start (depth-read c) .pre .table) (served (depth-read c)) (omega arith) (first .child-of .ensures) (next .sibling-of .ensures) (deep .depth-word2 .ensures)
     (cached .line .ensures) (uncached .line2 .ensures) (c .line3 .ensures)
+
+-- what x pays as a cache, and as none
+pays-own : (c : tie.After-pays2) → let a = start (depth-read (lines-read c)) .args in
+    let t = treeOf (a .file .now) in
+    c .before .pays .result .0 ≡ payAt t (demandOf (a .file .now)) (mayBe t) (a .x) (a .serving) true
+pays-own c = pays-itself _ _ _ (start (depth-read (lines-read c)) .args .serving) (c .before .pays .ensures)
+
+pays-other : (c : tie.After-pays2) → let a = start (depth-read (lines-read c)) .args in
+    let t = treeOf (a .file .now) in
+    c .pays2 .result .0 ≡ payAt t (demandOf (a .file .now)) (mayBe t) (a .x) (a .serving) false
+pays-other c = pays-above _ _ _ _ (c .pays2 .ensures)
 
 depth-word-requires : tie.Need-depth-word-requires
 depth-word-requires c κs = serving-stands (c .before .before .pre)
@@ -76,8 +90,8 @@ later-requires c κs =
     let p = c .before in
     let l = lines-read p in
     let d = depth-read l in (
-      split-parts (start d .pre) (served d) (held l) (p .before .pays .ensures) (p .pays2 .ensures),
-      split-bound (start d .pre) (served d) (held l) (p .before .pays .ensures) (p .pays2 .ensures) (l .before .sibling-of .ensures) (c .most-below .ensures),
+      split-parts (start d .pre) (served d) (held l) (pays-own p) (pays-other p),
+      split-bound (start d .pre) (served d) (held l) (pays-own p) (pays-other p) (l .before .sibling-of .ensures) (c .most-below .ensures),
     )
 
 sub-takes : tie.Need-sub-takes
@@ -85,22 +99,22 @@ sub-takes c =
     let p = c .before .before in
     let l = lines-read p in
     let d = depth-read l in
-    split-fits (start d .pre) (served d) (held l) (p .before .pays .ensures) (p .pays2 .ensures) (c .later .ensures)
+    split-fits (start d .pre) (served d) (held l) (pays-own p) (pays-other p) (c .later .ensures)
 
 takes-requires : tie.Need-takes-requires
 takes-requires c κs =
     let p = c .before .before in
     let l = lines-read p in
     let d = depth-read l in
-    split-node-parts (start d .pre) (served d) (held l) (p .before .pays .ensures) (p .pays2 .ensures) (c .later .ensures)
+    split-node-parts (start d .pre) (served d) (held l) (pays-own p) (pays-other p) (c .later .ensures)
 
 returns : tie.Need-returns
 returns c =
     let p = c .before .before .before in
     let l = lines-read p in
     let d = depth-read l in (
-      split-later (start d .pre) (served d) (held l) (p .before .pays .ensures) (p .pays2 .ensures) (c .before .later .ensures),
-      split-member (start d .pre) (served d) (held l) (p .before .pays .ensures) (p .pays2 .ensures) (c .before .later .ensures) (c .takes .ensures),
+      split-later (start d .pre) (served d) (held l) (pays-own p) (pays-other p) (c .before .later .ensures),
+      split-member (start d .pre) (served d) (held l) (pays-own p) (pays-other p) (c .before .later .ensures) (c .takes .ensures),
     )
 
 pub split-of-spec : {M : Type 1} → statement M

@@ -4,7 +4,7 @@ use Prim.Native.Nat.{_≤_}
 use native.Mathlib.Omega.{arith}
 use Rattle.model.specs.File.{treeOf}
 use Rattle.model.specs.Tree.{depth}
-use Rattle.best_rows.specs.Guarded.{free}
+use Rattle.best_rows.specs.Guarded.{mayBe}
 use Rattle.node_words.specs.Ancestors.{ancestorAt}
 use Rattle.table.specs.Table.{lineNumber, LinesFilled}
 use Rattle.table.proofs.Room.{in-tree, stored-node}
@@ -15,7 +15,7 @@ use Rattle.table.proofs.fill_node.Tie as tie
 
 abbrev Inv-loop : tie.InvT-loop
 Inv-loop file tree s₀ counts v a₀ u₀ s a u =
-    (a ≤ depth (treeOf file) v) × (u ≡ ancestorAt (treeOf file) v a) × LinesFilled file free tree (lineNumber tree v a) s₀ s
+    (a ≤ depth (treeOf file) v) × (u ≡ ancestorAt (treeOf file) v a) × LinesFilled file (mayBe (treeOf file)) tree (lineNumber tree v a) s₀ s
 
 abbrev μ-loop : tie.MeasureT-loop
 μ-loop file tree s₀ counts v a₀ u₀ s a u = a

@@ -8,12 +8,12 @@ use borrow.Author.Needs.{needs}
 use Rattle.laws.proofs.Stores.{length-part}
 use Rattle.model.specs.File.{treeOf, demandOf}
 use Rattle.best_rows.specs.Best.{cap}
-use Rattle.best_rows.specs.Guarded.{free}
+use Rattle.best_rows.specs.Guarded.{mayBe}
 use Rattle.best_rows.specs.BestAt.{childrenAt, siblingsAt}
 use Rattle.lines.specs.Line.{mostWidth, LineParts, RowBounds, LinesHoldBest}
 use Rattle.lines.proofs.Row.{row-parts, row-is-line}
 use Rattle.table.specs.Table.{width}
-use Rattle.table.proofs.Lines.{line-read, line-put, parts-read}
+use Rattle.table.proofs.Lines.{pays-itself, pays-above, line-read, line-put, parts-read}
 use Rattle.table.proofs.Room.{room-sound}
 use Rattle.table.proofs.Reading.{served-room, served-place, served-width, served-fits, children-place, own-place, siblings-place, row-counted, served-itself, served-above-it, lines-hold-best, lines-bounded, next-before}
 use Rattle.table.proofs.fill_one.Statement.{statement}
@@ -30,7 +30,7 @@ read c = c .before .before .before .before .before
 held : (c : tie.After-line3) → let a = start c .args in
     let t = treeOf (a .file .now) in
     let d = demandOf (a .file .now) in
-    LinesHoldBest (width (a .tree)) (childrenAt t d free (a .v) (a .u)) (siblingsAt t d free (a .v) (a .u)) (c .before .before .line .result .now) (c .before .line2 .result .now) (c .line3 .result .now)
+    LinesHoldBest (width (a .tree)) (childrenAt t d (mayBe t) (a .v) (a .u)) (siblingsAt t d (mayBe t) (a .v) (a .u)) (c .before .before .line .result .now) (c .before .line2 .result .now) (c .line3 .result .now)
 held c =
     let uncached = c .before in
     let cached = uncached .before in
@@ -51,7 +51,7 @@ parts c =
     let other = c .before .before .before in
     let member = other .before in
     let st = start (read c) in
-    parts-read _ _ _ _ (room-sound (st .pre .0 .stored .room)) (st .pre .1 .1) (held (read c)) (c .width .ensures) (member .pays .ensures) (other .pays2 .ensures)
+    parts-read _ _ _ _ (room-sound (st .pre .0 .stored .room)) (st .pre .1 .1) (held (read c)) (c .width .ensures) (pays-itself _ _ _ (st .args .u) (member .pays .ensures)) (pays-above _ _ _ _ (other .pays2 .ensures))
 
 bounds : (c : tie.After-width) → let rest = read c in
     let counts = start (read c) .args .counts .now in
@@ -192,7 +192,7 @@ returns c =
     let member = other .before in
     let st = start (read w) in
     let l = made .row-line .ensures ∙ row-is-line (parts w) (bounds w) (wide w) (own .own-line .ensures) (copy .copy .ensures) in
-    let is = line-read _ _ _ _ _ (st .pre .1 .1) (held (read w)) (w .width .ensures) (member .pays .ensures) (other .pays2 .ensures) l in
+    let is = line-read _ _ _ _ _ (st .pre .1 .1) (held (read w)) (w .width .ensures) (pays-itself _ _ _ (st .args .u) (member .pays .ensures)) (pays-above _ _ _ _ (other .pays2 .ensures)) l in
     line-put _ _ _ _ (st .args .v) (st .args .a) _ _ (st .args .s .now) (fits at) (w .width .ensures) is ∙ rw (at .line-at .ensures)
 
 pub fill-one-spec : {M : Type 1} → statement M

@@ -3,7 +3,8 @@ use mathlib.Core.Path.{_≡_, _∙_}
 use Prim.Native.Nat.{_≤_, _<_}
 use native.Mathlib.Nat.{le-refl}
 use native.Mathlib.Omega.{arith}
-use Rattle.best_rows.specs.Guarded.{free}
+use Rattle.model.specs.File.{treeOf}
+use Rattle.best_rows.specs.Guarded.{mayBe}
 use Rattle.node_words.proofs.Words.{room-some}
 use Rattle.table.specs.Table.{lineNumber, LinesFilled}
 use Rattle.table.proofs.Room.{room-long, room-place, room-nodes}
@@ -12,7 +13,7 @@ use Rattle.table.proofs.fill_table.Statement.{statement}
 use Rattle.table.proofs.fill_table.Tie as tie
 
 abbrev Inv-loop : tie.InvT-loop
-Inv-loop file tree s₀ counts v₀ s v = (0 < v) × (v ≤ tree .nodes) × LinesFilled file free tree (lineNumber tree v 0) s₀ s
+Inv-loop file tree s₀ counts v₀ s v = (0 < v) × (v ≤ tree .nodes) × LinesFilled file (mayBe (treeOf file)) tree (lineNumber tree v 0) s₀ s
 
 abbrev μ-loop : tie.MeasureT-loop
 μ-loop file tree s₀ counts v₀ s v = v

@@ -14,11 +14,9 @@ add-start : tie.Need-add-start
 add-start c = search needs
 
 add-end : tie.Need-add-end
-unfolding recordLength
 add-end c = search needs
 
 sub-result : tie.Need-sub-result
-unfolding recordLength
 sub-result c = search needs
 
 part-result-start : tie.Need-part-result-start
