@@ -26,7 +26,7 @@ module _ (allows : ℕ → Bool → Bool) where
   abbrev pub KeepsTo : List ℕ → List ℕ → Type 0
   KeepsTo k l = (v : ℕ) → has l v ≡ true → allows v (has k v) ≡ true
 
--- what a node of the tree may be, a cache (u is true) and none: everything is allowed
+-- may node v of the tree be a cache (u is true), or none (u is false)? Document 01 allows both.
 unfoldable pub mayBe : Tree → ℕ → Bool → Bool
 mayBe t v u = true
 
