@@ -35,7 +35,7 @@ allowed-found t d ok allows b l some =
     let here = row-at-server t in
     (rw (← here) at (nodes-found-rank-first t d ok allows b l some), rw (← here) at (nodes-found-total t d ok allows b l some))
 
--- ---- the plan: what a node of the tree may be, a set's nodes are, and no more is asked of them
+-- ---- the plan: the sets of the tree are the ascending lists of its sites that keep to what its nodes may be
 
 module _ (t : Tree) (b : ℕ) (k : List ℕ) where
   set-allowed : isSet t k ≡ true → length k ≤ b → AllowedSet t (mayBe t) b k

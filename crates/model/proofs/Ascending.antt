@@ -104,7 +104,7 @@ module _ (t : Tree) (k : List ℕ) where
   pub set-ascends : isSet t k ≡ true → ascends 0 (t .count) k ≡ true
   set-ascends h = rw set-is at h
 
-  -- as it is told by n and an answer
+  -- by the answer to whether the list ascends below n
   pub set-told : {n : ℕ} {b : Bool} → n ≡ t .count → ascends 0 n k ≡ b → isSet t k ≡ b
   set-told e h = set-is ∙ (rw e at h)
 
