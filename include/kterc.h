@@ -4,7 +4,9 @@
  * different memory may run at the same time. Each array is a pointer and its length in entries. A pointer is aligned for its
  * type and not NULL, also where the length is 0, and the lent arrays of one call do not overlap each other or the file.
  *
- * File. A tree file as bytes, of any content and length: n nodes and budget k are read from it.
+ * File. A tree file as bytes, of any content and length: its version, n nodes and budget k are read from it. A record of
+ * version 1 has 10 bytes, the last 2 of them the hit ratio; one of version 2 has 12, the last 4 of them the cachable bytes. No
+ * accepted file is longer than KTERC_FILE_BYTES, 12,297.
  *
  * Scratch. Words of 64 bits, n * (h + 1) * (k + 1) + 4 * n of them, where h is the tree's height; kterc_scratch_words says how
  * many, and at most KTERC_SCRATCH_WORDS are asked. What they hold before a call does not matter. After an accepted call these
@@ -29,10 +31,11 @@
 extern "C" {
 #endif
 
-/* The largest sizes that a tree file can have, and the most words of scratch that rule 13 can ask for. */
+/* The largest sizes that a tree file can have, its bytes among them, and the most words of scratch that rule 13 can ask for. */
 #define KTERC_NODES 1024
 #define KTERC_BUDGET 32
 #define KTERC_DEPTH 32
+#define KTERC_FILE_BYTES (9 + 12 * KTERC_NODES)
 #define KTERC_SCRATCH_WORDS (KTERC_NODES * (KTERC_DEPTH + 1) * (KTERC_BUDGET + 1) + 4 * KTERC_NODES)
 
 /* The stack of each call, in bytes. */
@@ -46,7 +49,7 @@ extern "C" {
 #define KTERC_RULE(answer) ((answer) % 256)
 #define KTERC_RECORD(answer) ((answer) / 256)
 
-/* 0, or the number (not the record) of the first broken rule among 1 to 11. */
+/* 0, or the number (not the record) of the first broken rule among 1 to 11, with 17 in the place of 11 in version 2. */
 uint32_t kterc_check(const uint8_t *file, size_t file_length);
 
 /* The words of scratch that rule 13 asks for, 0 if the file is refused. */

@@ -6,13 +6,14 @@
 
 #include "kterc.h"
 
+/* By number. Rule 15 is the report program's alone. */
 static const char *const rules[] = {
     [1] = "The file has fewer than 9 bytes.",
     [2] = "The file does not begin with KTR.",
-    [3] = "The version is not 1.",
+    [3] = "The version is neither 1 nor 2.",
     [4] = "The number of nodes is not from 1 to 1,024.",
     [5] = "The budget is above 32.",
-    [6] = "The file is not exactly 9 + 10 x n bytes long.",
+    [6] = "The file is not exactly 9 + 10 x n bytes long (in version 2: 9 + 12 x n).",
     [7] = "The parent is neither the node before nor an ancestor of it (for node 0: not 0).",
     [8] = "The node is more than 32 links from the server.",
     [9] = "The link to the parent is longer than 1,000 (for node 0: not 0).",
@@ -21,6 +22,7 @@ static const char *const rules[] = {
     [12] = "The set is not strictly ascending, each node from 1 to n - 1.",
     [13] = "There is too little scratch.",
     [14] = "An answer buffer is too short.",
+    [17] = "The cachable bytes exceed the flow.",
 };
 
 static void *lent(size_t entries, size_t size)

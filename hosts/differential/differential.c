@@ -1,5 +1,5 @@
-/* The proved library against the reference in C: random trees of every size, damaged files, buffers of wrong lengths, and guard
- * words around all that is lent. Stops at the first difference. Then the stack that the calls take. */
+/* The proved library against the reference in C: random trees of every size in each version, damaged files, buffers of wrong
+ * lengths, and guard words around all that is lent. Stops at the first difference. Then the stack that the calls take. */
 #include <inttypes.h>
 #include <stdio.h>
 #include <stdlib.h>
@@ -11,21 +11,23 @@
 #include "stack.h"
 #include "trees.h"
 
-/* Trees of one size and of few nodes, and damaged files of each tree. */
-enum { EACH_SIZE = 3, SMALL = 4000, SMALL_NODES = 9, DAMAGED = 4 };
+/* In each version: trees of one size and of few nodes, and damaged files of each tree. */
+enum { EACH_SIZE = 2, SMALL = 2000, SMALL_NODES = 9, DAMAGED = 4 };
 
 static uint64_t seed = 20000601;
+
+/* Trees of the version at hand and of them those enumerated; files and calls of all versions. */
 static struct { long trees, enumerated, damaged, calls, refused; } count;
 
-/* The tree at hand: its file, and what the reference says of it. */
+/* The tree at hand, its file and what the reference says of it; and the same before the file was damaged. */
 static struct {
-    uint8_t file[FILE_BYTES + 16];
+    uint8_t file[DAMAGED_BYTES];
     size_t length, n, k, words;
     uint32_t code;
     struct tree tree;
     struct plan plan;
     struct greedy greedy;
-} at;
+} at, undamaged;
 
 static void check_that(int holds, const char *what)
 {
@@ -47,7 +49,7 @@ static size_t vary(size_t asked)
     return kind < 9 ? asked : asked + upto(9);
 }
 
-/* Rules 1 to 11, then the call's own two, in this order. */
+/* The rules on the file, then the call's own two, in this order. */
 static uint32_t first_broken(uint32_t rule, int holds, int buffers_long)
 {
     uint32_t answer = at.code ? at.code : !holds ? rule : !buffers_long ? 14 : 0;
@@ -185,27 +187,22 @@ static void solve(void)
     planner.greedy(&at.tree, &at.greedy);
 }
 
-static void try_tree(int n)
+static void try_tree(int version, int n)
 {
-    at.length = random_tree(at.file, n, upto(BUDGET), &seed);
+    at.length = random_tree(at.file, version, n, upto(BUDGET), &seed);
     read_file();
     check_that(!at.code, "a tree file was not accepted by the reference");
     solve();
     count.trees++;
     try_file();
+    undamaged = at;
     for (int i = 0; i < DAMAGED; i++) {
-        uint8_t whole[sizeof at.file];
-        size_t length = at.length;
-        memcpy(whole, at.file, sizeof whole);
-        at.length = damage(at.file, length, &seed);
+        at.length = damage(at.file, version, at.length, &seed);
         read_file();
         if (!at.code) solve();
         count.damaged++;
         try_file();
-        memcpy(at.file, whole, sizeof whole);
-        at.length = length;
-        read_file();
-        solve();
+        at = undamaged;
     }
 }
 
@@ -219,15 +216,22 @@ static void enumerate(void)
     count.enumerated++;
 }
 
-int main(void)
+static void try_version(int version)
 {
+    count.trees = count.enumerated = 0;
     for (int i = 0; i < SMALL; i++)
-        try_tree(1 + upto(SMALL_NODES - 1)), enumerate();
+        try_tree(version, 1 + upto(SMALL_NODES - 1)), enumerate();
     for (int n = 1; n <= NODES; n++)
         for (int i = 0; i < EACH_SIZE; i++)
-            try_tree(n);
-    printf("%ld random trees of 1 to %d nodes, %ld of them of at most %d nodes and enumerated\n", count.trees, NODES,
-           count.enumerated, SMALL_NODES);
+            try_tree(version, n);
+    printf("version %d: %ld random trees of 1 to %d nodes, %ld of them of at most %d nodes and enumerated\n", version,
+           count.trees, NODES, count.enumerated, SMALL_NODES);
+}
+
+int main(void)
+{
+    for (int version = 1; version <= VERSIONS; version++)
+        try_version(version);
     printf("%ld damaged files\n", count.damaged);
     printf("%ld calls, %ld of them refused, with guards around every buffer\n", count.calls, count.refused);
     printf("none differed\n");

@@ -6,11 +6,10 @@
 #include <ucontext.h>
 
 #include "kterc.h"
-#include "lend.h"
 #include "reference.h"
 #include "trees.h"
 
-/* Trees of each shape, and a stack far larger than any call may need. */
+/* Trees of each shape in each version, and a stack far larger than any call may need. */
 enum { EACH_SHAPE = 12, ROOM = 1 << 20, PAINT = 0xA5 };
 
 /* ---- a call on a painted stack */
@@ -103,8 +102,8 @@ int stacks_suffice(void)
 {
     uint64_t seed = 20001024;
     int good = 1;
-    for (int i = 0; i < SHAPES * EACH_SHAPE; i++) {
-        at.length = shaped_tree(at.file, i % SHAPES, NODES, BUDGET, &seed);
+    for (int i = 0; i < VERSIONS * SHAPES * EACH_SHAPE; i++) {
+        at.length = shaped_tree(at.file, 1 + i / SHAPES % VERSIONS, i % SHAPES, NODES, BUDGET, &seed);
         at.members = random_set(at.set, NODES, &seed);
         for (int c = 0; c < CALLS; c++)
             good &= accepted(c);

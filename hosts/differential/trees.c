@@ -31,70 +31,92 @@ static int parent_of(enum shape shape, int i, const int *parent, const int *dept
 
 /* ---- values: from many ties to the full range */
 
-static void put_values(uint8_t *record, int kind, int i, uint64_t *seed)
+/* The last field of a record is the hit ratio or the cachable bytes: its largest value, and writing it. */
+static uint32_t all_cachable(int version, uint32_t flow) { return version == 1 ? HIT : flow; }
+
+static void put_cachable(uint8_t *record, int version, uint32_t value) { put(record + 8, value, version == 1 ? 2 : 4); }
+
+static void put_values(uint8_t *record, int version, int kind, int i, uint64_t *seed)
 {
-    uint32_t length, flow, hit;
+    uint32_t length, flow, part;
     switch (kind) {
-    case 0: length = 1, flow = 1, hit = HIT; break;
-    case 1: length = upto(1, seed), flow = upto(1, seed), hit = HIT * upto(1, seed); break;
-    case 2: length = upto(3, seed), flow = upto(3, seed), hit = HIT / 2 * upto(2, seed); break;
-    case 3: length = LENGTH, flow = FLOW, hit = HIT; break;
-    default: length = upto(LENGTH, seed), flow = upto(FLOW, seed), hit = upto(HIT, seed);
+    case 0: length = 1, flow = 1, part = all_cachable(version, flow); break;
+    case 1: length = upto(1, seed), flow = upto(1, seed), part = all_cachable(version, flow) * upto(1, seed); break;
+    case 2: length = upto(3, seed), flow = upto(3, seed), part = all_cachable(version, flow) * upto(2, seed) / 2; break;
+    case 3: length = LENGTH, flow = FLOW, part = all_cachable(version, flow); break;
+    default: length = upto(LENGTH, seed), flow = upto(FLOW, seed), part = upto(all_cachable(version, flow), seed);
     }
     put(record + 2, i ? length : 0, 2);
     put(record + 4, flow, 4);
-    put(record + 8, hit, 2);
+    put_cachable(record, version, part);
 }
 
-size_t shaped_tree(uint8_t *file, enum shape shape, int n, int k, uint64_t *seed)
+size_t shaped_tree(uint8_t *file, int version, enum shape shape, int n, int k, uint64_t *seed)
 {
     int kind = upto(5, seed), parent[NODES] = { 0 }, depth[NODES] = { 0 };
     memcpy(file, "KTR", 3);
-    put(file + 3, 1, 2);
+    put(file + 3, version, 2);
     put(file + 5, n, 2);
     put(file + 7, k, 2);
     for (int i = 0; i < n; i++) {
-        uint8_t *record = file + HEADER + RECORD * i;
+        uint8_t *record = file + HEADER + record_bytes(version) * i;
         if (i) {
             parent[i] = parent_of(shape, i, parent, depth, seed);
             depth[i] = depth[parent[i]] + 1;
         }
         put(record, parent[i], 2);
-        put_values(record, kind, i, seed);
+        put_values(record, version, kind, i, seed);
     }
-    return HEADER + RECORD * (size_t)n;
+    return HEADER + record_bytes(version) * (size_t)n;
 }
 
-size_t random_tree(uint8_t *file, int n, int k, uint64_t *seed)
+size_t random_tree(uint8_t *file, int version, int n, int k, uint64_t *seed)
 {
     enum shape shape = upto(SHAPES - 1, seed);
-    return shaped_tree(file, shape, n, k, seed);
+    return shaped_tree(file, version, shape, n, k, seed);
 }
 
 /* ---- damage */
 
-static void damage_record(uint8_t *record, uint64_t *seed)
+static void damage_record(uint8_t *record, int version, int i, uint64_t *seed)
 {
-    switch (upto(4, seed)) {
+    switch (upto(5, seed)) {
     case 0: put(record, upto(NODES + 10, seed), 2); break;
-    case 1: put(record + 2, LENGTH + upto(1, seed), 2); break;
-    case 2: put(record + 4, FLOW + upto(1, seed), 4); break;
-    case 3: put(record + 8, HIT + upto(1, seed), 2); break;
-    default: record[upto(RECORD - 1, seed)] ^= 1 << upto(7, seed);
+    case 1: put(record, i - 1, 2); break; /* at depth 33 where node i - 1 is at depth 32 */
+    case 2: put(record + 2, LENGTH + upto(1, seed), 2); break;
+    case 3: put(record + 4, FLOW + upto(1, seed), 4); break;
+    case 4: put_cachable(record, version, all_cachable(version, number(record + 4, 4)) + upto(1, seed)); break;
+    default: record[upto(record_bytes(version) - 1, seed)] ^= 1 << upto(7, seed);
     }
 }
 
-size_t damage(uint8_t *file, size_t length, uint64_t *seed)
+/* The same bytes under a header of any version, with as many nodes as there are whole records of it. */
+static size_t relabel(uint8_t *file, size_t length, uint64_t *seed)
 {
-    for (int places = 1 + upto(2, seed); places > 0; places--) {
-        size_t records = length > HEADER ? (length - HEADER) / RECORD : 0;
-        int kind = upto(9, seed);
-        if (kind == 0 && length < FILE_BYTES) file[length++] = noise(seed);
-        else if (kind == 1 && length) length -= 1 + upto(length < 12 ? length - 1 : 11, seed);
-        else if (kind == 2 && length >= HEADER) put(file + 7, BUDGET + upto(1, seed), 2);
-        else if (kind == 3 && length >= HEADER) put(file + 5, upto(NODES + 1, seed), 2);
-        else if (kind == 4 && length) file[upto(length < HEADER ? length - 1 : HEADER - 1, seed)] = noise(seed);
-        else if (records) damage_record(file + HEADER + RECORD * upto(records - 1, seed), seed);
+    int version = 1 + upto(VERSIONS - 1, seed);
+    size_t records = (length - HEADER) / record_bytes(version);
+    put(file + 3, version, 2);
+    put(file + 5, records, 2);
+    return HEADER + record_bytes(version) * records;
+}
+
+size_t damage(uint8_t *file, int version, size_t length, uint64_t *seed)
+{
+    for (int places = 1 + upto(PLACES - 1, seed); places > 0; places--) {
+        size_t records = length > HEADER ? (length - HEADER) / record_bytes(version) : 0;
+        int kind = upto(15, seed);
+        if (kind == 0) file[length++] = noise(seed);
+        else if (kind == 1 && length) length -= 1 + upto(length <= RECORD_2 ? length - 1 : RECORD_2, seed);
+        else if (kind == 2 && length > HEADER) length = HEADER - upto(1, seed);
+        else if (kind == 3 && length >= HEADER) put(file + 3, upto(VERSIONS + 1, seed), 2);
+        else if (kind == 4 && length >= HEADER) put(file + 5, upto(NODES + 1, seed), 2);
+        else if (kind == 5 && length >= HEADER) put(file + 7, BUDGET + upto(1, seed), 2);
+        else if (kind == 6 && length) file[upto(length < HEADER ? length - 1 : HEADER - 1, seed)] = noise(seed);
+        else if (kind == 7 && length >= HEADER) length = relabel(file, length, seed);
+        else if (records) {
+            int i = upto(records - 1, seed);
+            damage_record(file + HEADER + record_bytes(version) * i, version, i, seed);
+        }
     }
     return length;
 }

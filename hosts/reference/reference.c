@@ -12,17 +12,22 @@ static inline int min(int a, int b) { return a < b ? a : b; }
 
 /* ---- the file */
 
-static uint32_t number(const uint8_t *p, int width)
+/* The last field of a record: rule 11 or 17, and the cachable flow in thousandths. */
+static uint32_t read_cachable(const uint8_t *field, int version, uint32_t flow, uint64_t *cachable)
 {
-    uint32_t x = 0;
-    while (width--)
-        x = x << 8 | *p++;
-    return x;
+    if (version == 1) {
+        uint32_t hit = number(field, 2);
+        *cachable = (uint64_t)hit * flow;
+        return hit > HIT ? 11 : 0;
+    }
+    uint32_t bytes = number(field, 4);
+    *cachable = 1000 * (uint64_t)bytes;
+    return bytes > flow ? 17 : 0;
 }
 
-static uint32_t read_record(const uint8_t *r, int i, struct tree *t)
+static uint32_t read_record(const uint8_t *r, int version, int i, struct tree *t)
 {
-    int parent = number(r, 2), length = number(r + 2, 2), hit = number(r + 8, 2), depth = 0;
+    int parent = number(r, 2), length = number(r + 2, 2), depth = 0;
     uint32_t flow = number(r + 4, 4);
     if (i == 0 && parent) return 7;
     if (i > 0) {
@@ -35,29 +40,28 @@ static uint32_t read_record(const uint8_t *r, int i, struct tree *t)
     if (depth > DEPTH) return 8;
     if (length > (i ? LENGTH : 0)) return 9;
     if (flow > FLOW) return 10;
-    if (hit > HIT) return 11;
     t->parent[i] = parent;
     t->depth[i] = depth;
     t->length[i] = length;
     t->dist[i] = i ? t->dist[parent] + length : 0;
     t->full[i] = 1000 * (uint64_t)flow;
-    t->cachable[i] = (uint64_t)hit * flow;
     if (depth > t->h) t->h = depth;
-    return 0;
+    return read_cachable(r + 8, version, flow, &t->cachable[i]);
 }
 
 static uint32_t read_tree(const uint8_t *file, size_t length, struct tree *t)
 {
     if (length < HEADER) return 1;
     if (memcmp(file, "KTR", 3)) return 2;
-    if (number(file + 3, 2) != 1) return 3;
-    int n = number(file + 5, 2), k = number(file + 7, 2);
+    int version = number(file + 3, 2), n = number(file + 5, 2), k = number(file + 7, 2);
+    if (version < 1 || version > VERSIONS) return 3;
     if (n < 1 || n > NODES) return 4;
     if (k > BUDGET) return 5;
-    if (length != HEADER + RECORD * (size_t)n) return 6;
+    int record = record_bytes(version);
+    if (length != HEADER + (size_t)record * n) return 6;
     t->n = n, t->k = k, t->h = 0;
     for (int i = 0; i < n; i++) {
-        uint32_t rule = read_record(file + HEADER + RECORD * i, i, t);
+        uint32_t rule = read_record(file + HEADER + record * i, version, i, t);
         if (rule) return i * 256 + rule;
     }
     return 0;

@@ -6,16 +6,30 @@
 #include <stddef.h>
 #include <stdint.h>
 
-enum { NODES = 1024, BUDGET = 32, DEPTH = 32, LENGTH = 1000, HIT = 1000, FLOW = 100000000, HEADER = 9, RECORD = 10 };
+enum { NODES = 1024, BUDGET = 32, DEPTH = 32, LENGTH = 1000, HIT = 1000, FLOW = 100000000, HEADER = 9 };
+
+/* Version 1 of the file has hit ratios, version 2 cachable bytes; and the bytes of a record in each. */
+enum { VERSIONS = 2, RECORD_1 = 10, RECORD_2 = 12 };
 
 /* The longest file, and the most words of scratch. */
-enum { FILE_BYTES = HEADER + RECORD * NODES, SCRATCH_WORDS = NODES * (DEPTH + 1) * (BUDGET + 1) + 4 * NODES };
+enum { FILE_BYTES = HEADER + RECORD_2 * NODES, SCRATCH_WORDS = NODES * (DEPTH + 1) * (BUDGET + 1) + 4 * NODES };
+
+static inline int record_bytes(int version) { return version == 1 ? RECORD_1 : RECORD_2; }
+
+/* The number in `width` bytes, most significant first. */
+static inline uint32_t number(const uint8_t *p, int width)
+{
+    uint32_t x = 0;
+    while (width--)
+        x = x << 8 | *p++;
+    return x;
+}
 
 struct tree {
     int n, k, h;
     int parent[NODES], depth[NODES], first[NODES], next[NODES], size[NODES], row[NODES];
     uint64_t length[NODES], dist[NODES];
-    uint64_t full[NODES], cachable[NODES]; /* thousandths: 1000 f and p f */
+    uint64_t full[NODES], cachable[NODES]; /* thousandths: 1000 f; p f, or in version 2 1000 times the cachable bytes */
 };
 
 struct plan {
@@ -40,7 +54,7 @@ enum fill { SPLITS, RUNS };
 
 /* One object file of reference.c exports one of these; the benchmark links it at two levels of optimization. */
 struct planner {
-    /* Rules 1 to 11: 0, or record * 256 + number. */
+    /* Rules 1 to 11, and 17 in the place of 11 in version 2: 0, or record * 256 + number. */
     uint32_t (*read)(const uint8_t *file, size_t length, struct tree *t);
     void (*plan)(struct tree *t, uint64_t *scratch, enum fill fill, struct plan *p);
     void (*greedy)(const struct tree *t, struct greedy *g);

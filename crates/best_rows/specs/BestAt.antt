@@ -1,4 +1,4 @@
--- The dynamic program for document 01's costs: the least cost of a row of a tree and its caches, by the row's first node, the
+-- The dynamic program for the costs of the model: the least cost of a row of a tree and its caches, by the row's first node, the
 -- serving node above it and the number of caches.
 use mathlib.Core.Bool.{Bool, true, cond}
 use mathlib.Core.List.{List}

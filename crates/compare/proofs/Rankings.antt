@@ -15,7 +15,7 @@ use Rattle.compare.specs.Answers.{rankingOf, WinnerHandedBack}
 use Rattle.compare.specs.declared.Ranking.{Ranking}
 
 module _ (file k l : List ℕ) where
-  -- a rule from 1 to 11 is broken
+  -- a rule about the file is broken
   pub ranking-refused-file : {q i : ℕ} → broken q i ≡ fileVerdict file → refused q i ≡ ranking file k l
   unfolding ranking rankVerdict
   ranking-refused-file e = rw (sym e)

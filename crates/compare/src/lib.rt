@@ -110,7 +110,7 @@ fn ranks_before(file: &[u8], n: usize, first: &[u16], second: &[u16]) -> bool
 
 // ---- the calls
 
-// Which of two sets ranks first? Rules 1 to 11, then rule 12 for the first set and for the second. Equal sets: first.
+// Which of two sets ranks first? The rules about the file, then rule 12 for the first set and for the second. Equal sets: first.
 pub fn rank(file: &[u8], first: &[u16], second: &[u16]) -> Ranking
     ensures { λ r. ⌜ rankingOf r ≡ ranking (now (file .entry)) (now (first .entry)) (now (second .entry)) ⌝ }
 {

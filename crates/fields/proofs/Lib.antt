@@ -1,2 +1,2 @@
-mod Table
+pub mod Table
 mod Reading

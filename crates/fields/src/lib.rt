@@ -1,13 +1,13 @@
-// The sizes of the tree file, the table of a record's four fields, and the readers that go by it.
+// The sizes of the tree file, its versions, the table of a record's fields, and the readers that go by it.
 ghost use mathlib.Core.Path.{_≡_};
 ghost use Prim.Native.Nat.{_+_, _*_, _≤_, _<_, _^_};
 ghost use lib.Dec.{leb};
 ghost use lib.ListN.{length};
-ghost use Rattle.model.specs.File.{number, fieldOf, headerLength, versionOf, countOf, budgetOf, treeOf, demandOf};
+ghost use Rattle.model.specs.File.{number, mostNodes, headerLength, versionOf, countOf, budgetOf, hasRatios, recordLength, recordAt, fieldOf, treeOf, demandOf};
 ghost use Rattle.model.specs.Bill.{whole, cachable};
-ghost use Rattle.fields.specs.Table.{rowOf, fieldAt, InFile};
+ghost use Rattle.fields.specs.Table.{rowOf, fieldAt, HasField, InFile};
 
-// What an accepted file says of its tree: n, k and h. The associated constants are the tree file's version, sizes and places.
+// What an accepted file says of its tree: n, k and h. The associated constants are the tree file's versions, sizes and places.
 pub struct Tree {
     pub nodes: usize,
     pub budget: usize,
@@ -34,7 +34,10 @@ impl Tree {
 
     pub const HIT: u64 = 1_000;
 
-    pub const VERSION: u64 = 1;
+    // version 1 has a hit ratio for each client, version 2 cachable bytes
+    pub const FIRST_VERSION: u64 = 1;
+
+    pub const NEWEST_VERSION: u64 = 2;
 
     pub const HEADER: usize = 9;
 
@@ -45,7 +48,10 @@ impl Tree {
 
     const BUDGET_AT: usize = 7;
 
-    pub const RECORD: usize = 10;
+    // the bytes of a record in version 1, and in version 2
+    const RATIO_RECORD: usize = 10;
+
+    const BYTES_RECORD: usize = 12;
 
     // which row of the table is which field
     pub const PARENT_FIELD: usize = 0;
@@ -56,7 +62,9 @@ impl Tree {
 
     pub const HIT_FIELD: usize = 3;
 
-    pub const FIELDS: [Field; 4] = [
+    pub const CACHABLE_FIELD: usize = 4;
+
+    pub const FIELDS: [Field; 5] = [
         Field {
             offset: 0,
             width: 2,
@@ -77,12 +85,17 @@ impl Tree {
             width: 2,
             most: Tree::HIT,
         },
+        Field {
+            offset: 8,
+            width: 4,
+            most: Tree::FLOW,
+        },
     ];
 }
 
 // Row `f` of the table.
 pub fn row_of(f: usize) -> Field
-    requires { ⌜ f < 4 ⌝ }
+    requires { ⌜ f < 5 ⌝ }
     ensures { λ r. ⌜ rowOf r ≡ fieldAt f ⌝ }
 {
     Tree::FIELDS[f]
@@ -110,27 +123,7 @@ pub fn number_at(file: &[u8], at: usize, width: usize) -> u64
     value
 }
 
-// Field `f` of the record of node `v`.
-pub fn field_of(file: &[u8], f: usize, v: usize) -> u64
-    requires { ⌜ f < 4 ⌝ }
-    requires { ⌜ InFile (now file) v ⌝ }
-    ensures { λ r. ⌜ r ≡ fieldOf (now (file .entry)) (fieldAt f) v ⌝ }
-    ensures { λ r. ⌜ r < 2 ^ 32 ⌝ }
-{
-    let row = row_of(f);
-    let at = Tree::HEADER + Tree::RECORD * v + row.offset;
-    number_at(file, at, row.width)
-}
-
-// Is field `f` of the record of node `v` at most its largest value?
-pub fn within(file: &[u8], f: usize, v: usize) -> bool
-    requires { ⌜ f < 4 ⌝ }
-    requires { ⌜ InFile (now file) v ⌝ }
-    ensures { λ r. ⌜ r ≡ leb (fieldOf (now (file .entry)) (fieldAt f) v) (fieldAt f .most) ⌝ }
-{
-    let row = row_of(f);
-    field_of(file, f, v) <= row.most
-}
+// ---- the header
 
 pub fn version_of(file: &[u8]) -> u64
     requires { ⌜ headerLength ≤ length (now file) ⌝ }
@@ -155,11 +148,117 @@ pub fn budget_of(file: &[u8]) -> usize
     number_at(file, Tree::BUDGET_AT, 2) as usize
 }
 
+// ---- records
+
+// Is the file of version 1?
+pub fn has_ratios(file: &[u8]) -> bool
+    requires { ⌜ headerLength ≤ length (now file) ⌝ }
+    ensures { λ r. ⌜ r ≡ hasRatios (now (file .entry)) ⌝ }
+{
+    version_of(file) == Tree::FIRST_VERSION
+}
+
+// How many bytes a record has.
+pub fn record_length(file: &[u8]) -> usize
+    requires { ⌜ headerLength ≤ length (now file) ⌝ }
+    ensures { λ r. ⌜ r ≡ recordLength (now (file .entry)) ⌝ }
+{
+    if has_ratios(file) {
+        return Tree::RATIO_RECORD;
+    }
+    Tree::BYTES_RECORD
+}
+
+// Where the record of node `v` begins.
+pub fn record_at(file: &[u8], v: usize) -> usize
+    requires { ⌜ headerLength ≤ length (now file) ⌝ }
+    requires { ⌜ v ≤ mostNodes ⌝ }
+    ensures { λ r. ⌜ r ≡ recordAt (now (file .entry)) v ⌝ }
+{
+    Tree::HEADER + record_length(file) * v
+}
+
+// ---- the fields of a file whose records are known to have `size` bytes: a loop asks for their length once, before it
+
+// Field `f` of the record of node `v`.
+fn field_in(file: &[u8], size: usize, f: usize, v: usize) -> u64
+    requires { ⌜ size ≡ recordLength (now file) ⌝ }
+    requires { ⌜ HasField (now file) f × InFile (now file) v ⌝ }
+    ensures { λ r. ⌜ r ≡ fieldOf (now (file .entry)) (fieldAt f) v ⌝ }
+    ensures { λ r. ⌜ r < 2 ^ 32 ⌝ }
+{
+    let row = row_of(f);
+    let at = Tree::HEADER + size * v + row.offset;
+    number_at(file, at, row.width)
+}
+
+pub fn parent_in(file: &[u8], size: usize, v: usize) -> usize
+    requires { ⌜ size ≡ recordLength (now file) ⌝ }
+    requires { ⌜ InFile (now file) v ⌝ }
+    ensures { λ r. ⌜ r ≡ treeOf (now (file .entry)) .parent v ⌝ }
+{
+    field_in(file, size, Tree::PARENT_FIELD, v) as usize
+}
+
+// The length of the link to the parent.
+pub fn length_in(file: &[u8], size: usize, v: usize) -> units::Distance
+    requires { ⌜ size ≡ recordLength (now file) ⌝ }
+    requires { ⌜ InFile (now file) v ⌝ }
+    ensures { λ r. ⌜ r .0 ≡ treeOf (now (file .entry)) .linkLength v ⌝ }
+{
+    units::Distance(field_in(file, size, Tree::LENGTH_FIELD, v))
+}
+
+// All that the client at v asks for.
+pub fn flow_in(file: &[u8], size: usize, v: usize) -> units::Flow
+    requires { ⌜ size ≡ recordLength (now file) ⌝ }
+    requires { ⌜ InFile (now file) v ⌝ }
+    ensures { λ r. ⌜ r .0 ≡ whole (demandOf (now (file .entry))) v ⌝ }
+{
+    units::Flow(field_in(file, size, Tree::FLOW_FIELD, v) * units::Flow::WHOLE)
+}
+
+// The part of it that a cache can serve: only version 1 has records of ten bytes.
+pub fn cachable_in(file: &[u8], size: usize, v: usize) -> units::Flow
+    requires { ⌜ size ≡ recordLength (now file) ⌝ }
+    requires { ⌜ InFile (now file) v ⌝ }
+    ensures { λ r. ⌜ r .0 ≡ cachable (demandOf (now (file .entry))) v ⌝ }
+{
+    if size == Tree::RATIO_RECORD {
+        return units::Flow(
+            field_in(file, size, Tree::FLOW_FIELD, v) * field_in(file, size, Tree::HIT_FIELD, v),
+        );
+    }
+    units::Flow(units::Flow::WHOLE * field_in(file, size, Tree::CACHABLE_FIELD, v))
+}
+
+// ---- the same of any file
+
+// Field `f` of the record of node `v`.
+pub fn field_of(file: &[u8], f: usize, v: usize) -> u64
+    requires { ⌜ HasField (now file) f ⌝ }
+    requires { ⌜ InFile (now file) v ⌝ }
+    ensures { λ r. ⌜ r ≡ fieldOf (now (file .entry)) (fieldAt f) v ⌝ }
+    ensures { λ r. ⌜ r < 2 ^ 32 ⌝ }
+{
+    field_in(file, record_length(file), f, v)
+}
+
+// Is field `f` of the record of node `v` at most its largest value?
+pub fn within(file: &[u8], f: usize, v: usize) -> bool
+    requires { ⌜ HasField (now file) f ⌝ }
+    requires { ⌜ InFile (now file) v ⌝ }
+    ensures { λ r. ⌜ r ≡ leb (fieldOf (now (file .entry)) (fieldAt f) v) (fieldAt f .most) ⌝ }
+{
+    let row = row_of(f);
+    field_of(file, f, v) <= row.most
+}
+
 pub fn parent_of(file: &[u8], v: usize) -> usize
     requires { ⌜ InFile (now file) v ⌝ }
     ensures { λ r. ⌜ r ≡ treeOf (now (file .entry)) .parent v ⌝ }
 {
-    field_of(file, Tree::PARENT_FIELD, v) as usize
+    parent_in(file, record_length(file), v)
 }
 
 // The length of the link to the parent.
@@ -167,7 +266,7 @@ pub fn length_of(file: &[u8], v: usize) -> units::Distance
     requires { ⌜ InFile (now file) v ⌝ }
     ensures { λ r. ⌜ r .0 ≡ treeOf (now (file .entry)) .linkLength v ⌝ }
 {
-    units::Distance(field_of(file, Tree::LENGTH_FIELD, v))
+    length_in(file, record_length(file), v)
 }
 
 // All that the client at v asks for.
@@ -175,7 +274,7 @@ pub fn flow_of(file: &[u8], v: usize) -> units::Flow
     requires { ⌜ InFile (now file) v ⌝ }
     ensures { λ r. ⌜ r .0 ≡ whole (demandOf (now (file .entry))) v ⌝ }
 {
-    units::Flow(field_of(file, Tree::FLOW_FIELD, v) * units::Flow::WHOLE)
+    flow_in(file, record_length(file), v)
 }
 
 // The part of it that a cache can serve.
@@ -183,5 +282,5 @@ pub fn cachable_of(file: &[u8], v: usize) -> units::Flow
     requires { ⌜ InFile (now file) v ⌝ }
     ensures { λ r. ⌜ r .0 ≡ cachable (demandOf (now (file .entry))) v ⌝ }
 {
-    units::Flow(field_of(file, Tree::FLOW_FIELD, v) * field_of(file, Tree::HIT_FIELD, v))
+    cachable_in(file, record_length(file), v)
 }

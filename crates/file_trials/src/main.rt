@@ -38,15 +38,14 @@ fn answer_record(file: &[u8], v: u64) {
     trial_text::print_bytes(record);
 }
 
-// A file has at most 10,300 bytes here: the longest that is accepted has 10,249.
 fn check_case(line: &[u8]) {
-    let mut space = [0u8; 10300];
+    let mut space = trial_text::file_room();
     let n = trial_text::file_of(line, 2, &mut space);
     answer_check(&space[0..n]);
 }
 
 fn record_case(line: &[u8]) {
-    let mut space = [0u8; 10300];
+    let mut space = trial_text::file_room();
     let n = trial_text::file_of(line, 3, &mut space);
     let v = trial_text::number(trial_text::word(line, 2));
     answer_record(&space[0..n], v);

@@ -11,7 +11,7 @@ ghost use Prim.Native.Nat.{suc, _+_, _*_, _-_, _≤_, _<_, _^_};
 ghost use lib.Dec.{leb};
 ghost use lib.ListN.{length};
 ghost use Rattle.laws.specs.FirstGreatest.{FirstGreatest};
-ghost use Rattle.model.specs.File.{mostBudget, treeOf, demandOf};
+ghost use Rattle.model.specs.File.{mostBudget, recordLength, treeOf, demandOf};
 ghost use Rattle.model.specs.Bill.{cachable, total};
 ghost use Rattle.model.specs.Calls.{GreedyCall};
 ghost use Rattle.fields.specs.Table.{InFile};
@@ -68,20 +68,22 @@ fn own_flows(file: &[u8], n: usize, words: &mut [u64])
     requires { ⌜ NodeRoom (now file) n (now words) ⌝ }
     ensures { λ _. ⌜ Wrote n reachWord (cachable (demandOf (now (file .entry)))) n (now (words .entry)) (now (words .exit)) ⌝ }
 {
+    let size = fields::record_length(file);
     let mut v = 0;
     while v < n {
-        node_words::put(words, v, REACH, fields::cachable_of(file, v).0);
+        node_words::put(words, v, REACH, fields::cachable_in(file, size, v).0);
         v += 1;
     }
 }
 
 // Adds the flow that reaches node `v` to that of its parent.
-fn pass_on(file: &[u8], n: usize, words: &mut [u64], v: usize)
+fn pass_on(file: &[u8], size: usize, n: usize, words: &mut [u64], v: usize)
+    requires { ⌜ size ≡ recordLength (now file) ⌝ }
     requires { ⌜ SiteRoom (now file) n (now words) v ⌝ }
     requires { ⌜ PassedFrom (now file) n (v + 1) (now words) ⌝ }
     ensures { λ _. ⌜ Passes (now (file .entry)) n v (now (words .entry)) (now (words .exit)) ⌝ }
 {
-    let up = fields::parent_of(file, v);
+    let up = fields::parent_in(file, size, v);
     let here = Flow(node_words::word(words, v, REACH));
     let reach = Flow(node_words::word(words, up, REACH)).plus(here);
     node_words::put(words, up, REACH, reach.0);
@@ -92,10 +94,11 @@ fn gather(file: &[u8], n: usize, words: &mut [u64])
     requires { ⌜ NodeRoom (now file) n (now words) ⌝ }
     ensures { λ _. ⌜ Gathers (now (file .entry)) n (now (words .entry)) (now (words .exit)) ⌝ }
 {
+    let size = fields::record_length(file);
     own_flows(file, n, words);
     let mut v = n - 1;
     while 0 < v {
-        pass_on(file, n, words, v);
+        pass_on(file, size, n, words, v);
         v -= 1;
     }
 }
@@ -164,7 +167,8 @@ fn relieve(file: &[u8], n: usize, words: &mut [u64], x: usize)
 }
 
 // The distance of the serving node of `v`: its own distance if it is marked, else that of its parent's serving node.
-fn served_at(file: &[u8], words: &[u64], v: usize) -> Distance
+fn served_at(file: &[u8], size: usize, words: &[u64], v: usize) -> Distance
+    requires { ⌜ size ≡ recordLength (now file) ⌝ }
     requires { ⌜ InFile (now file) v ⌝ }
     requires { ⌜ HasNode (now words) v × HasNode (now words) (treeOf (now file) .parent v) ⌝ }
     ensures { λ r. ⌜ r .0 ≡ servedFrom (treeOf (now (file .entry))) (now (words .entry)) v ⌝ }
@@ -172,7 +176,7 @@ fn served_at(file: &[u8], words: &[u64], v: usize) -> Distance
     if node_words::word(words, v, MARK) == 1 {
         return node_words::distance_of(words, v);
     }
-    Distance(node_words::word(words, fields::parent_of(file, v), SERVING_DISTANCE))
+    Distance(node_words::word(words, fields::parent_in(file, size, v), SERVING_DISTANCE))
 }
 
 // Stores the distance of the serving node of each node from `x` on.
@@ -181,9 +185,10 @@ fn serve(file: &[u8], n: usize, words: &mut [u64], x: usize)
     requires { ⌜ ServedTo (now file) n x (now words) ⌝ }
     ensures { λ _. ⌜ Serves (now (file .entry)) n (now (words .entry)) (now (words .exit)) ⌝ }
 {
+    let size = fields::record_length(file);
     let mut v = x;
     while v < n {
-        let distance = served_at(file, words, v);
+        let distance = served_at(file, size, words, v);
         node_words::put(words, v, SERVING_DISTANCE, distance.0);
         v += 1;
     }
@@ -273,7 +278,7 @@ pub fn buffers_long(k: usize, totals: usize, nodes: usize) -> bool
     k <= nodes
 }
 
-// Rules 1 to 11, 13 and 14, then the greedy rule; nothing is written before they all hold.
+// The rules about the file, 13 and 14, then the greedy rule; nothing is written before they all hold.
 pub fn greedy(file: &[u8], scratch: &mut [u64], totals: &mut [u64], nodes: &mut [u16]) -> Ruling
     ensures { λ r. ⌜ GreedyCall (now (file .entry)) record { scratch = now (scratch .entry); totals = now (totals .entry); nodes = now (nodes .entry) } (verdictOf r) record { scratch = now (scratch .exit); totals = now (totals .exit); nodes = now (nodes .exit) } ⌝ }
 {

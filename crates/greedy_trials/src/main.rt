@@ -39,7 +39,7 @@ fn answer_file(line: &[u8], file: &[u8]) {
 
 fn answer_line(line: &[u8]) {
     trial_text::print_name(line);
-    let mut file = [0u8; 10300];
+    let mut file = trial_text::file_room();
     let n = trial_text::file_of(line, 5, &mut file);
     answer_file(line, &file[0..n]);
     trial_text::end_line();

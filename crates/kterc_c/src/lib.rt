@@ -21,7 +21,7 @@ fn code_of(ruling: Ruling) -> u32
     }
 }
 
-// 0, or the number of the first broken rule among 1 to 11.
+// 0, or the number of the first broken rule about the file.
 #[no_mangle]
 pub extern "C" fn kterc_check(file: &[u8]) -> u32
     ensures { λ r. ⌜ r ≡ checkNumber (now (file .entry)) ⌝ }

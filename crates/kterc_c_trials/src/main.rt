@@ -183,7 +183,7 @@ fn answer_case(file: &[u8], line: &[u8]) {
 
 fn answer_line(line: &[u8]) {
     trial_text::print_name(line);
-    let mut file = [0u8; 10300];
+    let mut file = trial_text::file_room();
     let n = trial_text::file_of(line, 2, &mut file);
     answer_case(&file[0..n], line);
     trial_text::end_line();

@@ -1,4 +1,4 @@
--- Rules 13 and 14 after rules 1 to 11.
+-- Rules 13 and 14 after the rules about the file.
 use mathlib.Core.Path.{_≡_, refl, sym, ap, ap₂, _∙_}
 use mathlib.Core.Bool.{Bool, true, false, _&&_}
 use mathlib.Core.List.{List}

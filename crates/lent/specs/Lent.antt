@@ -12,6 +12,6 @@ pub record AcceptedSizes (file : List ℕ) (sizes : code.Tree) : Type 0 where
   pub accepted : fileVerdict file ≡ passed
   pub of-file : sizes ≡ sizesOf file
 
--- rules 1 to 11, then rule 13 of a scratch of so many words
+-- the rules about the file, then rule 13 of a scratch of so many words
 unfoldable pub lentVerdict : List ℕ → ℕ → Verdict
 lentVerdict file words = fileVerdict file then ask 13 0 (leb (scratchWords file) words)

@@ -1,4 +1,4 @@
-// What every call with lent scratch asks first: rules 1 to 11 of the file, then rule 13 of the scratch.
+// What every call with lent scratch asks first: the rules about the file, then rule 13 of the scratch.
 use tree_file::Checked;
 ghost use mathlib.Core.Path.{_≡_};
 ghost use lib.Dec.{leb};
@@ -24,7 +24,7 @@ pub fn enough(file: &[u8], tree: fields::Tree, words: usize) -> bool
     scratch_words(file, tree) <= words
 }
 
-// Rules 1 to 11, then rule 13 of a scratch of `words` words; n, k and h where they hold.
+// The rules about the file, then rule 13 of a scratch of `words` words; n, k and h where they hold.
 pub fn check(file: &[u8], words: usize) -> Checked
     ensures { λ r. ⌜ answerOf r ≡ answer (lentVerdict (now (file .entry)) words) (sizesOf (now (file .entry))) ⌝ }
 {

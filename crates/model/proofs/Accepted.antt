@@ -1,19 +1,19 @@
 -- What holds of an accepted file: its sizes, its preorder, and the limits of its fields at every node number.
 use mathlib.Core.Path.{_≡_, refl, ap, _∙_}
-use mathlib.Core.Bool.{_&&_}
+use mathlib.Core.Bool.{true, false, cond, _&&_}
 use mathlib.Core.List.{List}
-use Prim.Native.Nat.{ℕ, zero, suc, _+_, _≤_, _<_}
-use native.Mathlib.Nat.{mul-le-mul-left}
+use Prim.Native.Nat.{ℕ, zero, suc, _+_, _*_, _≤_, _<_}
+use native.Mathlib.Nat.{mul-le-mul, mul-le-mul-left}
 use native.Mathlib.Decide.{decLt}
 use native.Mathlib.Omega.{arith}
 use lib.Dec.{leb, eqb}
 use lib.ListN.{length, List·getD-eq-default}
 use borrow.Author.Tests.{leb-true, eqb-true}
 use Rattle.laws.specs.Lists.{same}
-use Rattle.laws.proofs.Bools.{both}
-use Rattle.model.specs.File.{Field, number, fieldOf, treeOf, demandOf, version, headerLength, versionOf, countOf, budgetOf, recordLength, recordAt, mostNodes, mostBudget, mostDepth, mostLength, mostFlow, mostHit, parentField, lengthField, flowField, hitField}
+use Rattle.laws.proofs.Bools.{by-test, both}
+use Rattle.model.specs.File.{Field, ratio, bytes, number, fieldOf, hasRatios, shareOf, treeOf, demandOf, firstVersion, newestVersion, headerLength, versionOf, countOf, budgetOf, recordLength, recordAt, mostNodes, mostBudget, mostDepth, mostLength, mostFlow, parentField, lengthField, flowField, hitField, cachableField}
 use Rattle.model.specs.Tree.{depth}
-use Rattle.model.specs.Rules.{passed, ask, parentHolds, lengthHolds, recordVerdict, recordsVerdict, marked, fileVerdict}
+use Rattle.model.specs.Rules.{passed, ask, parentHolds, lengthHolds, askShare, recordVerdict, recordsVerdict, marked, fileVerdict}
 use Rattle.model.specs.Preorder.{Preorder}
 use Rattle.model.specs.Accepted.{HeaderHolds, RecordHolds, Sound}
 use Rattle.model.proofs.Verdicts.{ask-passed, then-passed}
@@ -27,12 +27,15 @@ unfolding fileVerdict
 accepted-header s e =
     let e1 = then-passed (ask 1 0 (leb headerLength (length s))) _ e in
     let e2 = then-passed (ask 2 0 (marked s)) _ (e1 .1) in
-    let e3 = then-passed (ask 3 0 (eqb (versionOf s) version)) _ (e2 .1) in
+    let e3 = then-passed (ask 3 0 (leb firstVersion (versionOf s) && leb (versionOf s) newestVersion)) _ (e2 .1) in
     let e4 = then-passed (ask 4 0 (leb 1 (countOf s) && leb (countOf s) mostNodes)) _ (e3 .1) in
     let e5 = then-passed (ask 5 0 (leb (budgetOf s) mostBudget)) _ (e4 .1) in
     let e6 = then-passed (ask 6 0 (eqb (length s) (recordAt s (countOf s)))) _ (e5 .1) in
+    let w = both (leb firstVersion (versionOf s)) (leb (versionOf s) newestVersion) (ask-passed 3 0 _ (e3 .0)) in
     let n = both (leb 1 (countOf s)) (leb (countOf s) mostNodes) (ask-passed 4 0 _ (e4 .0)) in
     record {
+      first = leb-true firstVersion (versionOf s) (w .0);
+      newest = leb-true (versionOf s) newestVersion (w .1);
       some = leb-true 1 (countOf s) (n .0);
       few = leb-true (countOf s) mostNodes (n .1);
       budget = leb-true (budgetOf s) mostBudget (ask-passed 5 0 _ (e5 .0));
@@ -42,7 +45,7 @@ accepted-header s e =
 
 -- ---- the records
 
--- rules 7 to 11 hold of every record
+-- rules 7 to 11 and 17 hold of every record
 each-record : (s : List ℕ) (n i : ℕ) → recordsVerdict s n ≡ passed → i < n → recordVerdict s i ≡ passed
 unfolding recordsVerdict
 each-record s zero i e h = absurd (omega arith)
@@ -67,10 +70,34 @@ record-holds s i e =
       shallow = leb-true (depth t i) mostDepth (ask-passed 8 i _ (e8 .0));
       linkLength = ask-passed 9 i _ (e9 .0);
       flow = leb-true (d .flow i) mostFlow (ask-passed 10 i _ (e10 .0));
-      hit = leb-true (d .hit i) mostHit (ask-passed 11 i _ (e10 .1));
+      share = e10 .1;
     }
 
 -- ---- where records stand
+
+-- 10 bytes in version 1, and else 12
+pub ratio-record : (s : List ℕ) → hasRatios s ≡ true → recordLength s ≡ 10
+unfolding recordLength
+ratio-record s e = rw e
+
+pub bytes-record : (s : List ℕ) → hasRatios s ≡ false → recordLength s ≡ 12
+unfolding recordLength
+bytes-record s e = rw e
+
+-- and the other way round
+pub ratio-told : (s : List ℕ) → recordLength s ≡ 10 → hasRatios s ≡ true
+ratio-told s h = by-test (λ b. hasRatios s ≡ b → b ≡ true) (hasRatios s) (λ _ _. refl) (λ _ e. absurd (omega (arith, bytes-record s e))) refl
+
+pub bytes-told : (s : List ℕ) → (recordLength s ≡ 10 → ⊥) → hasRatios s ≡ false
+bytes-told s h = by-test (λ b. hasRatios s ≡ b → b ≡ false) (hasRatios s) (λ _ e. absurd (h (ratio-record s e))) (λ _ _. refl) refl
+
+pub record-bounds : (s : List ℕ) → (10 ≤ recordLength s) × (recordLength s ≤ 12)
+record-bounds s =
+    by-test (λ b. hasRatios s ≡ b → (10 ≤ recordLength s) × (recordLength s ≤ 12)) (hasRatios s)
+    (λ _ e. (omega (arith, ratio-record s e), omega (arith, ratio-record s e))) (λ _ e. (omega (arith, bytes-record s e), omega (arith, bytes-record s e))) refl
+
+pub records-bound : (s : List ℕ) {r v : ℕ} → r ≡ recordLength s → v ≤ mostNodes → r * v ≤ 12 * mostNodes
+records-bound s e h = rw e (mul-le-mul (record-bounds s .1) h)
 
 -- a record ends before a later one begins
 pub record-before : (s : List ℕ) {i j : ℕ} → i < j → recordAt s i + recordLength s ≤ recordAt s j
@@ -83,7 +110,7 @@ unfolding number
 number-past zero s at h = refl
 number-past (suc w) s at h = omega (arith, number-past w s at h, List·getD-eq-default s 0 {n = at + w} (omega arith))
 
-field-past : (s : List ℕ) (f : Field) (i : ℕ) → length s ≡ recordAt s (countOf s) → countOf s ≤ i → fieldOf s f i ≡ 0
+pub field-past : (s : List ℕ) (f : Field) (i : ℕ) → length s ≡ recordAt s (countOf s) → countOf s ≤ i → fieldOf s f i ≡ 0
 unfolding fieldOf
 field-past s f i e h = number-past (f .width) s (recordAt s i + f .offset) (omega (arith, mul-le-mul-left (recordLength s) h))
 
@@ -128,8 +155,15 @@ module _ (s : List ℕ) (ok : fileVerdict s ≡ passed) where
   past-depth zero h = absurd (omega (arith, head .some))
   past-depth (suc v) h = rw (route-up (treeOf s) preorder v, past parentField (suc v) h, route-server (treeOf s)) (omega arith)
 
-  pub hit-bound : (v : ℕ) → demandOf s .hit v ≤ mostHit
-  hit-bound = at-most hitField mostHit (λ v h. in-file v h .hit)
+  past-share : (v : ℕ) → countOf s ≤ v → askShare v (demandOf s .flow v) (demandOf s .share v) ≡ passed
+  unfolding shareOf
+  past-share v h =
+      rw (past flowField v h, past hitField v h, past cachableField v h)
+      (by-test (λ b. askShare v 0 (cond b (ratio 0) (bytes 0)) ≡ passed) (hasRatios s) (λ _. refl) (λ _. refl))
+
+  -- rule 11 or 17 holds at every node number
+  pub share-holds : (v : ℕ) → askShare v (demandOf s .flow v) (demandOf s .share v) ≡ passed
+  share-holds = everywhere (λ v. askShare v (demandOf s .flow v) (demandOf s .share v) ≡ passed) (λ v h. in-file v h .share) past-share
 
   pub accepted-sound : Sound (treeOf s) (demandOf s)
   accepted-sound = record {
@@ -140,5 +174,5 @@ module _ (s : List ℕ) (ok : fileVerdict s ≡ passed) where
     shallow = everywhere (λ v. depth (treeOf s) v ≤ mostDepth) (λ v h. in-file v h .shallow) past-depth;
     short = at-most lengthField mostLength short-link;
     flow = at-most flowField mostFlow (λ v h. in-file v h .flow);
-    part = λ v. cachable-part (demandOf s) v (hit-bound v);
+    part = λ v. cachable-part (demandOf s) v v (share-holds v);
   }

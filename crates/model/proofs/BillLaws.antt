@@ -11,7 +11,7 @@ use Rattle.laws.specs.Lists.{sum, has, anyOf}
 use Rattle.laws.proofs.Bools.{by-test, not-both, either}
 use Rattle.model.specs.File.{Tree, Demand}
 use Rattle.model.specs.Tree.{nodes, route, atOrBelow}
-use Rattle.model.specs.Bill.{whole, price, cost, upTo, linkLoad, serving}
+use Rattle.model.specs.Bill.{servedLoad, whole, price, cost, upTo, linkLoad, serving}
 use Rattle.model.specs.Preorder.{Preorder}
 use Rattle.model.specs.Laws.{Serves, CacheBetween, PutsOn}
 use Rattle.model.proofs.Routes.{route-ends, parent-before, route-up, by-route}
@@ -130,12 +130,17 @@ module _ (t : Tree) (pre : Preorder t) (k : List ℕ) where
       puts : ℕ → ℕ
       puts c = bears t d pre k c false (route t c) v
 
+      puts-served : (c : ℕ) → CacheBetween t k c v → puts c ≡ servedLoad (d .flow c) (d .share c)
+      unfolding puts bears sent met atOrBelow
+      puts-served c a = rw (between-below c a, met-said c (between-below c a) .1 a) (relieved-is d c)
+
       puts-on : (c : ℕ) → PutsOn t d k c v (puts c)
       unfolding puts bears sent whole met atOrBelow
       puts-on c =
           record {
             elsewhere = λ b. rw b;
-            relieved = λ a. rw (between-below c a, met-said c (between-below c a) .1 a) (relieved-is d c);
+            relievedRatio = λ p e a. puts-served c a ∙ ap (servedLoad (d .flow c)) e;
+            relievedBytes = λ b e a. puts-served c a ∙ ap (servedLoad (d .flow c)) e;
             whole = λ b none. rw (b, by-test (λ m. met c ≡ m → m ≡ false) (met c) (λ _ h. absurd (none (met-said c b .0 h))) (λ _ _. refl) refl);
           }
 

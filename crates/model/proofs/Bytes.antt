@@ -7,7 +7,7 @@ use native.Mathlib.Nat.{pow-suc}
 use native.Mathlib.Omega.{arith}
 use lib.ListN.{length, getD, length-append}
 use lib.Seq.{getD-append-seam}
-use Rattle.model.specs.File.{number, mark, version, versionOf, countOf, budgetOf, recordAt, fieldOf, parentField, lengthField, flowField, hitField}
+use Rattle.model.specs.File.{number, mark, firstVersion, versionOf, countOf, budgetOf, recordAt, fieldOf, parentField, lengthField, flowField, hitField}
 use Rattle.model.specs.Bytes.{bytesOf, headerBytes, recordOf}
 
 length-bytes : (w x : ℕ) → length (bytesOf w x) ≡ w
@@ -42,12 +42,12 @@ behind-read w x front before back h =
 -- the header, before anything
 pub header-read : (n k : ℕ) (rest : List ℕ) → n < 256 ^ 2 → k < 256 ^ 2
     → let s = headerBytes n k ++ rest in
-    (versionOf s ≡ version) × (countOf s ≡ n) × (budgetOf s ≡ k)
+    (versionOf s ≡ firstVersion) × (countOf s ≡ n) × (budgetOf s ≡ k)
 unfolding headerBytes bytesOf
 header-read n k rest few small = (
-  number-read 2 version mark (bytesOf 2 n ++ bytesOf 2 k ++ rest) (omega arith),
-  number-read 2 n (mark ++ bytesOf 2 version) (bytesOf 2 k ++ rest) few,
-  number-read 2 k (mark ++ bytesOf 2 version ++ bytesOf 2 n) rest small,
+  number-read 2 firstVersion mark (bytesOf 2 n ++ bytesOf 2 k ++ rest) (omega arith),
+  number-read 2 n (mark ++ bytesOf 2 firstVersion) (bytesOf 2 k ++ rest) few,
+  number-read 2 k (mark ++ bytesOf 2 firstVersion ++ bytesOf 2 n) rest small,
 )
 
 -- a record, in its place

@@ -4,10 +4,11 @@ use mathlib.Core.Bool.{Bool, true, false, _&&_}
 use mathlib.Core.List.{List}
 use Prim.Native.Nat.{ℕ, zero, suc, _/_, _%_, _<_}
 use native.Mathlib.Omega.{arith}
-use lib.Dec.{ltb}
+use lib.Dec.{leb, ltb}
 use borrow.Author.Tests.{ltb-true}
 use Rattle.laws.proofs.Bools.{both}
-use Rattle.model.specs.Rules.{Verdict, passed, broken, ask, _then_, recordVerdict, recordsVerdict, fileVerdict}
+use Rattle.model.specs.File.{Share, ratio, bytes, mostHit}
+use Rattle.model.specs.Rules.{Verdict, passed, broken, ask, _then_, askShare, recordVerdict, recordsVerdict, fileVerdict}
 use Rattle.model.specs.Calls.{PlanMemory, planVerdict, GreedyMemory, greedyVerdict}
 use Rattle.model.specs.Report.{ReportMemory, reportVerdict}
 use Rattle.model.specs.Hosts.{codeUnit, codeOf, HostBillMemory, hostBillVerdict}
@@ -36,9 +37,13 @@ ask-numbered : (q i : ℕ) (b : Bool) → isByte q ≡ true → Numbered (ask q 
 ask-numbered q i true h = record { byte = λ p j e. absurd (broken≢passed (sym e)) }
 ask-numbered q i false h = record { byte = λ p j e. cc }
 
+share-numbered : (i f : ℕ) (s : Share) → Numbered (askShare i f s)
+share-numbered i f (ratio p) = ask-numbered 11 i (leb p mostHit) refl
+share-numbered i f (bytes b) = ask-numbered 17 i (leb b f) refl
+
 record-numbered : (file : List ℕ) (i : ℕ) → Numbered (recordVerdict file i)
 unfolding recordVerdict
-record-numbered file i = search (both-numbered, ask-numbered)
+record-numbered file i = search (both-numbered, ask-numbered, share-numbered)
 
 records-numbered : (file : List ℕ) (n : ℕ) → Numbered (recordsVerdict file n)
 unfolding recordsVerdict

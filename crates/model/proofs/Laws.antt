@@ -10,7 +10,8 @@ use Rattle.model.specs.Rules.{fileVerdict, accepted}
 use Rattle.model.specs.Bill.{linkLoad}
 use Rattle.model.specs.Laws.{Lawful}
 use Rattle.model.proofs.Verdicts.{is-passed}
-use Rattle.model.proofs.Accepted.{hit-bound, accepted-sound}
+use Rattle.model.proofs.Accepted.{share-holds, accepted-sound}
+use Rattle.model.proofs.Amounts.{ratio-within, bytes-within}
 use Rattle.model.proofs.Nearest.{distance-grows, cost-is}
 use Rattle.model.proofs.Loads.{links-total}
 use Rattle.model.proofs.BillLaws.{serving-serves, only-serving, cost-least, cost-reached, load-said}
@@ -30,6 +31,7 @@ lawful file fits =
     let passes = is-passed (fileVerdict file) fits in
     let ok = accepted-sound file passes in
     let pre = ok .preorder in
+    let holds = share-holds file passes in
     record {
       distancesGrow = distance-grows t pre;
       leastAtServing = λ k. cost-is t pre k d;
@@ -57,6 +59,8 @@ lawful file fits =
       costReached = λ k. cost-reached t pre k d;
       loadSaid = λ k v z. load-said t pre k v z d;
       serverLoad = λ k. refl;
-      priceExact = λ c v b. mul-le-mul (hit-bound file passes c) (distance-grows t pre v c b);
-      loadExact = hit-bound file passes;
+      ratioPriceExact = λ c v p e b. mul-le-mul (ratio-within c _ p e (holds c)) (distance-grows t pre v c b);
+      bytesPriceExact = λ c v x e b. mul-le-mul (bytes-within c _ x e (holds c)) (distance-grows t pre v c b);
+      ratioLoadExact = λ c p e. ratio-within c _ p e (holds c);
+      bytesLoadExact = λ c x e. bytes-within c _ x e (holds c);
     }

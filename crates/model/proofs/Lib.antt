@@ -25,3 +25,4 @@ pub mod Codes
 pub mod BillLaws
 pub mod CallLaws
 pub mod Laws
+pub mod Versions

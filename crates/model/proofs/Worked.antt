@@ -1,9 +1,10 @@
--- The definitions agree with document 01's worked cases that it does not mark, on bytes written out.
+-- The definitions agree with document 01's worked cases that it does not mark, and with those of 02, item 2, on bytes written out.
 use mathlib.Core.Path.{_≡_, refl}
 use mathlib.Core.List.{List, [], _∷_, flatMap}
-use Prim.Native.Nat.{ℕ}
+use Prim.Native.Nat.{ℕ, zero, suc, _*_, _<_}
+use native.Mathlib.Omega.{arith}
 use Rattle.laws.specs.Lists.{range, sum, least, greatest, has, anyOf, those, howMany, firstThat, same}
-use Rattle.model.specs.File.{number, recordLength, fieldOf, treeOf, demandOf}
+use Rattle.model.specs.File.{number, parentField, lengthField, flowField, hitField, cachableField, hasRatios, recordLength, fieldOf, shareOf, treeOf, demandOf}
 use Rattle.model.specs.Tree.{climb, route, atOrBelow, depth, height, distance}
 use Rattle.model.specs.Rules.{Verdict, parentHolds, lengthHolds, recordVerdict, recordsVerdict, marked, fileVerdict, accepted, ascends, isSet, scratchWords}
 use Rattle.model.specs.Bill.{price, cost, total, upTo, clientLoad, linkLoad, serving}
@@ -11,11 +12,11 @@ use Rattle.model.specs.Ties.{smallerFirst, members, visits, tiesBefore, 
 use Rattle.model.specs.Plan.{setsOf, firstOf, plan}
 use Rattle.model.specs.Greedy.{withNode, withNodes, leastNode, stepOver, takenFrom}
 use Rattle.model.specs.Calls.{after, ScratchAfter, checkNumber, recordBytes, billVerdict, servingNodes, linkLoads, rankVerdict, ranking, planTotals, planRows, PlanMemory, planVerdict, PlanCall, greedyTotals, greedyRow, GreedyMemory, greedyVerdict, GreedyCall}
-use Rattle.model.specs.Report.{setOfRow, ReportMemory, reportVerdict, ReportCall, digits, decimal, line, reportText, refusalText, programVerdict, programText}
+use Rattle.model.specs.Report.{setOfRow, ReportMemory, reportVerdict, ReportCall, digits, decimal, line, reportText, refusalText, verdictWithin, textWithin}
 use Rattle.model.specs.Hosts.{wordsAsked, HostBillMemory, hostBillVerdict, HostBillCall}
 use Rattle.model.specs.Bytes.{bytesOf, headerBytes, recordOf}
 use Rattle.model.specs.Cases.{treeA}
-use Rattle.model.specs.Worked.{fileA, largest, tooLong, Worked}
+use Rattle.model.specs.Worked.{fileA, secondA, largest, secondLargest, threeSevenths, tooMuch, tooLong, Worked}
 
 -- ---- what a call's statement settles
 
@@ -48,8 +49,17 @@ module _ {file : List ℕ} {v : Verdict} where
 
 -- ---- the cases
 
+-- what holds of each of five nodes
+of-five : (P : ℕ → Type 0) → P 0 → P 1 → P 2 → P 3 → P 4 → (v : ℕ) → v < 5 → P v
+of-five P a b c d e zero h = a
+of-five P a b c d e (suc zero) h = b
+of-five P a b c d e (suc (suc zero)) h = c
+of-five P a b c d e (suc (suc (suc zero))) h = d
+of-five P a b c d e (suc (suc (suc (suc zero)))) h = e
+of-five P a b c d e (suc (suc (suc (suc (suc f))))) h = absurd (omega arith)
+
 pub worked : Worked
-unfolding fileA largest tooLong bytesOf headerBytes recordOf treeA flatMap range sum least greatest has anyOf those howMany firstThat same number recordLength fieldOf climb route atOrBelow depth height distance parentHolds lengthHolds recordVerdict recordsVerdict marked fileVerdict accepted ascends isSet scratchWords price cost total upTo clientLoad linkLoad serving smallerFirst members visits tiesBefore ranksBefore setsOf firstOf plan withNode withNodes leastNode stepOver takenFrom checkNumber recordBytes billVerdict rankVerdict ranking planTotals planRows planVerdict greedyTotals greedyRow greedyVerdict setOfRow reportVerdict digits decimal line reportText refusalText programVerdict programText wordsAsked hostBillVerdict
+unfolding fileA secondA largest secondLargest threeSevenths tooMuch tooLong bytesOf headerBytes recordOf treeA flatMap range sum least greatest has anyOf those howMany firstThat same number hasRatios recordLength fieldOf shareOf climb route atOrBelow depth height distance parentHolds lengthHolds recordVerdict recordsVerdict marked fileVerdict accepted ascends isSet scratchWords price cost total upTo clientLoad linkLoad serving smallerFirst members visits tiesBefore ranksBefore setsOf firstOf plan withNode withNodes leastNode stepOver takenFrom checkNumber recordBytes billVerdict rankVerdict ranking planTotals planRows planVerdict greedyTotals greedyRow greedyVerdict setOfRow reportVerdict digits decimal line reportText refusalText verdictWithin textWithin wordsAsked hostBillVerdict
 worked = record {
   files = record {
     offsets = refl;
@@ -62,7 +72,8 @@ worked = record {
     markFirst = refl;
     markSecond = refl;
     markThird = refl;
-    versionTwo = refl;
+    versionNone = refl;
+    versionThree = refl;
     versionHigh = refl;
     noNodes = refl;
     mostNodesAndBudget = refl;
@@ -97,6 +108,63 @@ worked = record {
     serverClient = refl;
     serverFlow = refl;
     serverHit = refl;
+  };
+  second = record {
+    secondAPasses = refl;
+    byteOver = refl;
+    byteUnder = refl;
+    shortRecords = refl;
+    longRecords = refl;
+    versionThree = refl;
+    versionHigh = refl;
+    noNodes = refl;
+    mostNodesAndBudget = refl;
+    nodesOver = refl;
+    budgetOver = refl;
+    largestPass = refl;
+    oneMore = refl;
+    secondByte = refl;
+    thirdByte = refl;
+    fourthByte = refl;
+    elevenNotAsked = refl;
+    parentFirst = refl;
+    lengthFirst = refl;
+    flowFirst = refl;
+    nodeByNode = refl;
+    laterRecord = refl;
+    serverClient = refl;
+    serverCachable = refl;
+    checkOfAccepted = refl;
+    checkOfRefused = refl;
+    lastRecord = refl;
+    recordPast = refl;
+    sevenths = refl;
+    seventhsServed = refl;
+    loadsOfNone = refl;
+    loadsOfOne = refl;
+    largestTotal = refl;
+    largestSaved = refl;
+    seventeenFirst = refl;
+    setOver = refl;
+    loadsShort = refl;
+    planPasses = refl;
+    planScratchShort = refl;
+    planRowsShort = refl;
+    totalsOfPlan = refl;
+    rowsOfPlan = refl;
+    totalsOfGreedy = refl;
+    wordsOfSecondA = refl;
+    longestFile = refl;
+    longestShort = refl;
+    bothVersions = record {
+      first = (refl, refl);
+      second = (refl, refl);
+      count = refl;
+      parents = of-five (λ v. fieldOf secondA parentField v ≡ fieldOf fileA parentField v) refl refl refl refl refl;
+      lengths = of-five (λ v. fieldOf secondA lengthField v ≡ fieldOf fileA lengthField v) refl refl refl refl refl;
+      flows = of-five (λ v. fieldOf secondA flowField v ≡ fieldOf fileA flowField v) refl refl refl refl refl;
+      cachables = of-five (λ v. 1000 * fieldOf secondA cachableField v ≡ fieldOf fileA flowField v * fieldOf fileA hitField v) refl refl refl refl refl;
+    };
   };
   calls = record {
     largestTotal = refl;
@@ -147,8 +215,7 @@ worked = record {
     greedyPasses = refl;
     greedyScratchShort = refl;
     greedyTotalsShort = refl;
-    greedyNodesShort
-        = refl;
+    greedyNodesShort = refl;
     greedyFileFirst = refl;
     reportPasses = refl;
     reportScratchShort = refl;
@@ -172,6 +239,11 @@ worked = record {
   };
   statements = record {
     billSettled = λ c. (c .answers, c .servingsAfter, c .loadsAfter);
+    billOfSecond = λ c. (c .answers, c .servingsAfter, c .loadsAfter);
+    hostBillOfSecond = host-bill-settled;
+    planOfSecond = λ c. let s = plan-settled c in (s .0, s .1 .0, s .1 .1, s .2, s .3);
+    greedyOfSecond = λ c. let s = greedy-settled c in (s .0, s .1 .0, s .1 .1, s .2, s .3);
+    reportOfSecond = λ c. let s = report-settled c in (s .0, s .1 .0, s .1 .1, s .2, s .3, s .4, s .5, c .demandThree (s .0));
     billRefused = λ c. (c .answers, c .servingsAfter, c .loadsAfter);
     hostBillSettled = host-bill-settled;
     hostBillRefused = host-bill-settled;
@@ -185,14 +257,27 @@ worked = record {
   program = record {
     reportOfA = refl;
     refusalOfLength = refl;
+    reportOfSecondA = refl;
+    refusalOfCachable = refl;
+    formerPasses = refl;
+    formerLookOver = refl;
+    formerLookWithin = refl;
+    formerTextOver = refl;
+    formerTextWithin = refl;
     lookOver = refl;
     lookWithin = refl;
     textOver = refl;
     nodesWithin = refl;
+    nodesWithinInSecond = refl;
     nodesBeyond = refl;
     heightWithin = refl;
     heightBeyond = refl;
     budgetBeyond = refl;
+    elevenBeforeNodes = refl;
+    heightWithinInSecond = refl;
+    heightBeyondInSecond = refl;
+    budgetBeyondInSecond = refl;
+    seventeenBeforeFifteen = refl;
     elevenFirst = refl;
   };
 }

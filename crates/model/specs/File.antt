@@ -1,7 +1,9 @@
--- Document 01, "Tree file": its sizes, header and records, and the tree and the demand that a file holds.
--- A file, a set and a buffer are each the list of their entries.
+-- Document 01, "Tree file", with 02, item 2: its sizes, versions, header and records, and the tree and the demand that a file
+-- holds. A file, a set and a buffer are each the list of their entries.
+use mathlib.Core.Bool.{Bool, cond}
 use mathlib.Core.List.{List, [], _∷_}
 use Prim.Native.Nat.{ℕ, zero, suc, _+_, _*_, _-_}
+use lib.Dec.{eqb}
 use lib.ListN.{getD}
 
 -- ---- the sizes of the tree file, each named once
@@ -35,8 +37,12 @@ number (suc w) s at = number w s at * 256 + getD s (at + w) 0
 abbrev pub mark : List ℕ
 mark = 0x4B ∷ 0x54 ∷ 0x52 ∷ []
 
-abbrev pub version : ℕ
-version = 1
+-- version 1 has a hit ratio for each client, version 2 cachable bytes
+abbrev pub firstVersion : ℕ
+firstVersion = 1
+
+abbrev pub newestVersion : ℕ
+newestVersion = 2
 
 abbrev pub headerLength : ℕ
 headerLength = 9
@@ -52,15 +58,19 @@ countOf s = number 2 s 5
 abbrev pub budgetOf : List ℕ → ℕ
 budgetOf s = number 2 s 7
 
--- how many bytes a record has: 10 in version 1
+-- is the file of version 1?
+unfoldable pub hasRatios : List ℕ → Bool
+hasRatios s = eqb (versionOf s) firstVersion
+
+-- how many bytes a record has: 10 in version 1, 12 in version 2
 unfoldable pub recordLength : List ℕ → ℕ
-recordLength s = 10
+recordLength s = cond (hasRatios s) 10 12
 
 -- where the record of node i begins
 abbrev pub recordAt : List ℕ → ℕ → ℕ
 recordAt s i = headerLength + recordLength s * i
 
--- ---- the table of a record's four fields
+-- ---- the table of a record's fields: the first three, then in version 1 the hit and in version 2 the cachable bytes
 
 pub record Field : Type 0 where
   pub offset : ℕ
@@ -81,8 +91,12 @@ flowField = record { offset = 4; width = 4; most = mostFlow }
 abbrev pub hitField : Field
 hitField = record { offset = 8; width = 2; most = mostHit }
 
+-- "cachable bytes (4 bytes) where version 1 had the hit": question 17 judges them by the flow, and no flow is larger
+abbrev pub cachableField : Field
+cachableField = record { offset = 8; width = 4; most = mostFlow }
+
 abbrev pub fieldTable : List Field
-fieldTable = parentField ∷ lengthField ∷ flowField ∷ hitField ∷ []
+fieldTable = parentField ∷ lengthField ∷ flowField ∷ hitField ∷ cachableField ∷ []
 
 -- a field of the record of node i
 unfoldable pub fieldOf : List ℕ → Field → ℕ → ℕ
@@ -96,12 +110,20 @@ pub record Tree : Type 0 where
   -- the length of the link to the parent
   pub linkLength : ℕ → ℕ
 
+-- what of a flow a cache can serve: a hit ratio in thousandths, or cachable bytes
+pub data Share : Type 0 where
+  ratio : ℕ → Share
+  bytes : ℕ → Share
+
 pub record Demand : Type 0 where
   pub flow : ℕ → ℕ
-  pub hit : ℕ → ℕ
+  pub share : ℕ → Share
 
 abbrev pub treeOf : List ℕ → Tree
 treeOf s = record { count = countOf s; parent = fieldOf s parentField; linkLength = fieldOf s lengthField }
 
+unfoldable pub shareOf : List ℕ → ℕ → Share
+shareOf s i = cond (hasRatios s) (ratio (fieldOf s hitField i)) (bytes (fieldOf s cachableField i))
+
 abbrev pub demandOf : List ℕ → Demand
-demandOf s = record { flow = fieldOf s flowField; hit = fieldOf s hitField }
+demandOf s = record { flow = fieldOf s flowField; share = shareOf s }

@@ -8,7 +8,7 @@ use Prim.Native.Nat.{ℕ, _*_, _-_, _≤_, _<_}
 use lib.Dec.{eqb}
 use lib.ListN.{length, take, getD}
 use Rattle.laws.specs.Lists.{sum, has, howMany}
-use Rattle.model.specs.File.{Tree, Demand}
+use Rattle.model.specs.File.{Tree, ratio, bytes, Demand}
 use Rattle.model.specs.Tree.{server, nodes, route, atOrBelow, distance}
 use Rattle.model.specs.Rules.{isSet}
 use Rattle.model.specs.Bill.{totalLimit, price, cost, total, linkLoad, linkTotal, serving}
@@ -90,7 +90,9 @@ pub record PutsOn (t : Tree) (d : Demand) (k : List ℕ) (c v x : ℕ) : Type 0 
   -- only "clients c at or below v"
   pub elsewhere : atOrBelow t v c ≡ false → x ≡ 0
   -- "f × (1,000 − p) if K has a node from c up to v inclusive"
-  pub relieved : CacheBetween t k c v → x ≡ d .flow c * (1000 - d .hit c)
+  pub relievedRatio : (p : ℕ) → d .share c ≡ ratio p → CacheBetween t k c v → x ≡ d .flow c * (1000 - p)
+  -- "A load counts 1,000 × (flow − cachable) where a cache serves"
+  pub relievedBytes : (b : ℕ) → d .share c ≡ bytes b → CacheBetween t k c v → x ≡ 1000 * (d .flow c - b)
   -- "else f × 1,000"
   pub whole : atOrBelow t v c ≡ true → (CacheBetween t k c v → ⊥) → x ≡ d .flow c * 1000
 
@@ -143,5 +145,7 @@ pub record Lawful (t : Tree) (d : Demand) : Type 0 where
       → (puts : ℕ → ℕ) × ((c : ℕ) → PutsOn t d k c v (puts c)) × (linkLoad t d k v ≡ sum puts (nodes t))
   pub serverLoad : (k : List ℕ) → linkLoad t d k server ≡ 0
   -- m. No difference in a price or a load is cut off at 0.
-  pub priceExact : (c v : ℕ) → atOrBelow t v c ≡ true → d .hit c * distance t v ≤ 1000 * distance t c
-  pub loadExact : (c : ℕ) → d .hit c ≤ 1000
+  pub ratioPriceExact : (c v p : ℕ) → d .share c ≡ ratio p → atOrBelow t v c ≡ true → p * distance t v ≤ 1000 * distance t c
+  pub bytesPriceExact : (c v b : ℕ) → d .share c ≡ bytes b → atOrBelow t v c ≡ true → b * distance t v ≤ d .flow c * distance t c
+  pub ratioLoadExact : (c p : ℕ) → d .share c ≡ ratio p → p ≤ 1000
+  pub bytesLoadExact : (c b : ℕ) → d .share c ≡ bytes b → b ≤ d .flow c

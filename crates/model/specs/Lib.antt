@@ -15,4 +15,5 @@ pub mod Preorder
 pub mod Accepted
 pub mod Children
 pub mod Laws
+pub mod Versions
 pub mod Worked

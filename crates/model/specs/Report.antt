@@ -1,4 +1,4 @@
--- Document 01, "Report": demand 3 as one record, the report call, and the text that the program prints.
+-- Document 01, "Report", with 02, item 2: demand 3 as one record, the report call, and the text that the program prints.
 use mathlib.Core.Path.{_≡_}
 use mathlib.Core.Bool.{Bool, true, false, _&&_, not}
 use mathlib.Core.List.{List, [], _∷_, _++_, map, flatMap}
@@ -116,9 +116,9 @@ refusalText q i = line refusedWord (map decimal (q ∷ i ∷ []))
 
 -- ---- the report program
 
--- "The program looks at its first 650 input bytes"
+-- "The program looks at its first 650 input bytes"; with 02, item 2, "the program's first look is 778 bytes"
 abbrev pub firstLook : ℕ
-firstLook = 650
+firstLook = 778
 
 -- the limits of question 15
 abbrev pub programNodes : ℕ
@@ -133,14 +133,22 @@ programBudget = 8
 abbrev pub isSmall : List ℕ → Bool
 isSmall s = leb (countOf s) programNodes && leb (height (treeOf s)) programHeight && leb (budgetOf s) programBudget
 
--- "if all 650 exist it answers 15 before question 1. It asks the rest of 15 right after 11"
-unfoldable pub programVerdict : List ℕ → Verdict
-programVerdict s = askProgram (ltb (length s) firstLook) then fileVerdict s then askProgram (isSmall s)
+-- if all bytes of the first look exist "it answers 15 before question 1. It asks the rest of 15 right after 11", in version 2
+-- after 17
+unfoldable pub verdictWithin : ℕ → List ℕ → Verdict
+verdictWithin look s = askProgram (ltb (length s) look) then fileVerdict s then askProgram (isSmall s)
 
-abbrev textOf : Verdict → List ℕ → List ℕ
+abbrev pub textOf : Verdict → List ℕ → List ℕ
 textOf passed s = reportText s
 textOf (broken q i) s = refusalText q i
 
+-- what is printed with a first look of so many bytes
+unfoldable pub textWithin : ℕ → List ℕ → List ℕ
+textWithin look input = let s = take look input in textOf (verdictWithin look s) s
+
+abbrev pub programVerdict : List ℕ → Verdict
+programVerdict = verdictWithin firstLook
+
 -- what the program prints, for every input
-unfoldable pub programText : List ℕ → List ℕ
-programText input = let s = take firstLook input in textOf (programVerdict s) s
+abbrev pub programText : List ℕ → List ℕ
+programText = textWithin firstLook

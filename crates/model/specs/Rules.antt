@@ -1,4 +1,5 @@
--- Document 01, "The questions, in this order": each rule, and what a file, a set, a scratch and a buffer must fulfil.
+-- Document 01, "The questions, in this order", with 02, item 2: each rule, and what a file, a set, a scratch and a buffer must
+-- fulfil.
 -- "Rule N" is question N. The order in which a call asks them is in Calls.
 use mathlib.Core.Bool.{Bool, true, false, _&&_}
 use mathlib.Core.List.{List, [], _∷_}
@@ -6,7 +7,7 @@ use Prim.Native.Nat.{ℕ, zero, suc, _+_, _*_}
 use lib.Dec.{leb, ltb, eqb}
 use lib.ListN.{length, take}
 use Rattle.laws.specs.Lists.{has, same}
-use Rattle.model.specs.File.{Tree, treeOf, demandOf, mostNodes, mostBudget, mostDepth, mark, version, headerLength, versionOf, countOf, budgetOf, recordAt, lengthField, flowField, hitField}
+use Rattle.model.specs.File.{Tree, Share, ratio, bytes, treeOf, demandOf, mostNodes, mostBudget, mostDepth, mark, firstVersion, newestVersion, headerLength, versionOf, countOf, budgetOf, recordAt, lengthField, flowField, hitField}
 use Rattle.model.specs.Tree.{route, depth, height}
 
 -- no rule broken so far, or the first broken one: its number and its record
@@ -29,7 +30,7 @@ abbrev pub isPassed : Verdict → Bool
 isPassed passed = true
 isPassed (broken q i) = false
 
--- ---- rules 7 to 11, record by record
+-- ---- rules 7 to 11 and 17, record by record
 
 -- 7: "Is the parent 0 (node 0), or node i − 1 or an ancestor of it?"
 unfoldable pub parentHolds : Tree → ℕ → Bool
@@ -41,7 +42,12 @@ unfoldable pub lengthHolds : Tree → ℕ → Bool
 lengthHolds t zero = eqb (t .linkLength 0) 0
 lengthHolds t (suc i) = leb (t .linkLength (suc i)) (lengthField .most)
 
--- 8: "Is the depth at most 32?" 10: "Is the flow at most 100,000,000?" 11: "Is the hit at most 1,000?"
+-- 11: "Is the hit at most 1,000?" And in version 2: "17, with its record: cachable bytes exceed the flow; replaces 11"
+abbrev pub askShare : ℕ → ℕ → Share → Verdict
+askShare i f (ratio p) = ask 11 i (leb p (hitField .most))
+askShare i f (bytes b) = ask 17 i (leb b f)
+
+-- 8: "Is the depth at most 32?" 10: "Is the flow at most 100,000,000?"
 unfoldable pub recordVerdict : List ℕ → ℕ → Verdict
 recordVerdict s i =
     let t = treeOf s in
@@ -50,32 +56,32 @@ recordVerdict s i =
     then ask 8 i (leb (depth t i) mostDepth)
     then ask 9 i (lengthHolds t i)
     then ask 10 i (leb (d .flow i) (flowField .most))
-    then ask 11 i (leb (d .hit i) (hitField .most))
+    then askShare i (d .flow i) (d .share i)
 
--- the first n records, "each through 7 to 11 before the next"
+-- the first n records, "each through 7 to 11 before the next", in version 2 with 17 for 11
 unfoldable pub recordsVerdict : List ℕ → ℕ → Verdict
 recordsVerdict s zero = passed
 recordsVerdict s (suc i) = recordsVerdict s i then recordVerdict s i
 
--- ---- rules 1 to 11
+-- ---- the rules about the file itself
 
 -- 2: "Do they begin with the mark?"
 unfoldable pub marked : List ℕ → Bool
 marked s = same (take (length mark) s) mark
 
--- 1: "Are there at least 9 bytes?" 3: "Is the version 1?" 4: "Is n from 1 to 1,024?" 5: "Is k from 0 to 32?"
--- 6: "Is the file exactly 9 + 10 × n bytes?" Then the records.
+-- 1: "Are there at least 9 bytes?" 3: "admits 1 and 2". 4: "Is n from 1 to 1,024?" 5: "Is k from 0 to 32?"
+-- 6: "Is the file exactly 9 + 10 × n bytes?", in version 2 "counts the longer record". Then the records.
 unfoldable pub fileVerdict : List ℕ → Verdict
 fileVerdict s =
     ask 1 0 (leb headerLength (length s))
     then ask 2 0 (marked s)
-    then ask 3 0 (eqb (versionOf s) version)
+    then ask 3 0 (leb firstVersion (versionOf s) && leb (versionOf s) newestVersion)
     then ask 4 0 (leb 1 (countOf s) && leb (countOf s) mostNodes)
     then ask 5 0 (leb (budgetOf s) mostBudget)
     then ask 6 0 (eqb (length s) (recordAt s (countOf s)))
     then recordsVerdict s (countOf s)
 
--- "A file is accepted when no question about the file itself, here 1 to 11, gets a no"
+-- "A file is accepted when no question about the file itself, here 1 to 11, gets a no"; with 02, item 2, also 17
 unfoldable pub accepted : List ℕ → Bool
 accepted s = isPassed (fileVerdict s)
 

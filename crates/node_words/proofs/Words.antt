@@ -1,14 +1,14 @@
 -- Laws of the words of nodes: what a store changes, what an accepted file says of its nodes, and what the words say of a node.
 use mathlib.Core.Path.{_≡_, sym, _∙_}
 use mathlib.Core.List.{List}
-use Prim.Native.Nat.{ℕ, zero, suc, _+_, _*_, _<_}
+use Prim.Native.Nat.{ℕ, zero, suc, _+_, _*_, _≤_, _<_}
 use native.Mathlib.Decide.{ℕ-discrete}
 use native.Mathlib.Omega.{arith}
-use lib.ListN.{take, set, length-set}
+use lib.ListN.{length, take, set, length-set}
 use lib.Seq.{getD-set-same, getD-set-other}
 use Rattle.laws.specs.Fronts.{FrontOnly}
 use Rattle.laws.proofs.Fronts.{same-front-entry}
-use Rattle.model.specs.File.{Tree, treeOf, demandOf, countOf}
+use Rattle.model.specs.File.{Tree, treeOf, demandOf, countOf, headerLength}
 use Rattle.model.specs.Accepted.{Sound}
 use Rattle.model.proofs.Routes.{parent-before}
 use Rattle.model.proofs.Accepted.{record-before, accepted-header, accepted-sound}
@@ -66,6 +66,9 @@ module _ {file : List ℕ} {n : ℕ} {s : List ℕ} (r : NodeRoom file n s) wher
 
   pub room-some : 0 < n
   room-some = omega (arith, r .count, room-sound .some)
+
+  pub room-header : headerLength ≤ length file
+  room-header = omega (arith, accepted-header file (r .accepted) .exact)
 
   pub room-record : {v : ℕ} → v < n → InFile file v
   room-record {v} h =

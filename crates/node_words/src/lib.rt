@@ -3,7 +3,7 @@ ghost use mathlib.Core.Path.{_≡_};
 ghost use Prim.Native.Nat.{_+_, _*_, _-_, _≤_, _<_, _^_};
 ghost use lib.ListN.{length, set};
 ghost use Rattle.laws.specs.Fronts.{FrontOnly};
-ghost use Rattle.model.specs.File.{treeOf};
+ghost use Rattle.model.specs.File.{recordLength, treeOf};
 ghost use Rattle.node_words.specs.Words.{nodeWords, wordAt, distanceWord, depthWord, childWord, siblingWord, wordOf, HasNode, NodeRoom, SiteRoom, NodeWords, withPair, Measured, Unlinked, Linked, LinksOnly};
 ghost use Rattle.node_words.specs.RowNodes.{SomeFileWords, RowNodesBy};
 
@@ -85,14 +85,15 @@ pub fn sibling_of(words: &[u64], v: usize) -> usize
 // ---- distances and depths, from the server down
 
 // Stores the distance and the depth of node `v`, from those of its parent.
-fn measure_node(file: &[u8], n: usize, v: usize, words: &mut [u64])
+fn measure_node(file: &[u8], size: usize, n: usize, v: usize, words: &mut [u64])
+    requires { ⌜ size ≡ recordLength (now file) ⌝ }
     requires { ⌜ SiteRoom (now file) n (now words) v ⌝ }
     requires { ⌜ Measured (treeOf (now file)) (now words) v ⌝ }
     ensures { λ _. ⌜ Measured (treeOf (now (file .entry))) (now (words .exit)) (v + 1) ⌝ }
     ensures { λ _. ⌜ FrontOnly (nodeWords * n) (now (words .entry)) (now (words .exit)) ⌝ }
 {
-    let up = fields::parent_of(file, v);
-    let distance = distance_of(words, up).plus(fields::length_of(file, v));
+    let up = fields::parent_in(file, size, v);
+    let distance = distance_of(words, up).plus(fields::length_in(file, size, v));
     let depth = word(words, up, DEPTH) + 1;
     put_pair(words, v, DISTANCE, distance.0, depth);
 }
@@ -103,10 +104,11 @@ pub fn measure(file: &[u8], n: usize, words: &mut [u64])
     ensures { λ _. ⌜ Measured (treeOf (now (file .entry))) (now (words .exit)) n ⌝ }
     ensures { λ _. ⌜ FrontOnly (nodeWords * n) (now (words .entry)) (now (words .exit)) ⌝ }
 {
+    let size = fields::record_length(file);
     put_pair(words, 0, DISTANCE, 0, 0);
     let mut v = 1;
     while v < n {
-        measure_node(file, n, v, words);
+        measure_node(file, size, n, v, words);
         v += 1;
     }
 }
@@ -127,13 +129,14 @@ fn clear(n: usize, words: &mut [u64])
 }
 
 // Puts node `v` in front of the list of its parent's children.
-fn link_node(file: &[u8], n: usize, v: usize, words: &mut [u64])
+fn link_node(file: &[u8], size: usize, n: usize, v: usize, words: &mut [u64])
+    requires { ⌜ size ≡ recordLength (now file) ⌝ }
     requires { ⌜ SiteRoom (now file) n (now words) v ⌝ }
     requires { ⌜ Linked (treeOf (now file)) (now words) v ⌝ }
     ensures { λ _. ⌜ Linked (treeOf (now (file .entry))) (now (words .exit)) (v - 1) ⌝ }
     ensures { λ _. ⌜ LinksOnly n (now (words .entry)) (now (words .exit)) ⌝ }
 {
-    let up = fields::parent_of(file, v);
+    let up = fields::parent_in(file, size, v);
     let first = word(words, up, CHILD);
     put(words, v, SIBLING, first);
     put(words, up, CHILD, v as u64);
@@ -145,10 +148,11 @@ fn link(file: &[u8], n: usize, words: &mut [u64])
     ensures { λ _. ⌜ Linked (treeOf (now (file .entry))) (now (words .exit)) 0 ⌝ }
     ensures { λ _. ⌜ LinksOnly n (now (words .entry)) (now (words .exit)) ⌝ }
 {
+    let size = fields::record_length(file);
     clear(n, words);
     let mut v = n - 1;
     while 0 < v {
-        link_node(file, n, v, words);
+        link_node(file, size, n, v, words);
         v -= 1;
     }
 }

@@ -9,7 +9,7 @@ use Rattle.fields.specs.declared.Tree as code
 use Rattle.best_rows.specs.BestAt.{payAt, childrenAt, siblingsAt, takesNode, nodeBestAt, laterAt}
 use Rattle.best_rows.proofs.Cover.{next-sibling-is}
 use Rattle.best_rows.proofs.Table.{node-best-over, best-at-node}
-use Rattle.node_words.specs.Words.{wordOf, depthWord, siblingWord, HasNode}
+use Rattle.node_words.specs.Words.{wordOf, depthWord, siblingWord}
 use Rattle.lines.specs.Line.{LineParts, NodeParts, SplitBound, lineTakes, lineLater, LinesHoldBest}
 use Rattle.lines.proofs.Fewer.{line-parts-fewer, parts-fewer}
 use Rattle.lines.proofs.HeldBest.{held-node, held-best, held-later, held-takes}
@@ -18,12 +18,9 @@ use Rattle.table.proofs.Lines.{parts-read}
 use Rattle.optimum.specs.Walk.{MostBelow, RowToSplit}
 use Rattle.optimum.proofs.Served.{served-from-above}
 use Rattle.optimum.proofs.Nodes.{later-within}
-use Rattle.optimum.proofs.Walk.{table-sound, table-has-node, table-budget}
+use Rattle.optimum.proofs.Walk.{table-sound, table-budget}
 
 module _ {file : List ℕ} {allows : ℕ → Bool → Bool} {sizes : code.Tree} {s : List ℕ} {x serving m : ℕ} (r : RowToSplit file allows sizes s x serving m) where
-  pub serving-stands : HasNode s serving
-  serving-stands = table-has-node (r .table) (r .row .served .above)
-
   -- at its serving node's depth, as it is read
   pub split-served : {above : ℕ} → above ≡ wordOf s serving depthWord → Served (treeOf file) x above serving
   split-served e =

@@ -102,6 +102,9 @@ module _ {file : List ℕ} {allows : ℕ → Bool → Bool} {sizes : code.Tree} 
 -- ---- at a row with m caches
 
 module _ {file : List ℕ} {allows : ℕ → Bool → Bool} {sizes : code.Tree} {s : List ℕ} {serving first count start : ℕ} {old : List ℕ} where
+  pub serving-stands : RowToWalk file allows sizes s first serving count start old → HasNode s serving
+  serving-stands h = table-has-node (h .table) (h .row .served .above)
+
   pub walk-begins : RowToWalk file allows sizes s first serving count start old
       → Walked file allows sizes s serving first count start old first count start old
   walk-begins h = record { here = h; left = refl; smaller = le-refl _; long = refl; stores = refl }

@@ -6,7 +6,7 @@ ghost use lib.Dec.{leb};
 ghost use lib.ListN.{length, getD, set, replicate};
 ghost use lib.Seq.{sets};
 ghost use Rattle.laws.specs.Fronts.{FrontOnly};
-ghost use Rattle.model.specs.File.{treeOf, demandOf, mostBudget};
+ghost use Rattle.model.specs.File.{mostBudget, recordLength, treeOf, demandOf};
 ghost use Rattle.model.specs.Rules.{scratchWords};
 ghost use Rattle.model.specs.Plan.{planTotal, row};
 ghost use Rattle.model.specs.Calls.{planTotals, planRows, PlanCall};
@@ -15,6 +15,7 @@ ghost use Rattle.best_rows.specs.Least.{better};
 ghost use Rattle.best_rows.specs.Guarded.{mayBe};
 ghost use Rattle.best_rows.specs.TreeRows.{firstChild};
 ghost use Rattle.best_rows.specs.BestAt.{bestNodes, leastCount, takesNode, laterAt};
+ghost use Rattle.node_words.specs.Words.{depthWord, wordOf};
 ghost use Rattle.table.specs.Table.{TableRoom, Table};
 ghost use Rattle.optimum.specs.Walk.{nodesFrom, MostBelow, RowToSplit, RowToWalk, NodeToWalk};
 ghost use Rattle.optimum.specs.Budgets.{planRow, Budget, Buffers};
@@ -41,20 +42,31 @@ fn most_below(x: usize, sibling: usize, m: usize) -> usize
     if nodes < m { nodes } else { m }
 }
 
-// How the m caches of the row that begins with x split, where `serving` is the serving node above it.
-fn split_of(file: &[u8], tree: fields::Tree, s: &[u64], x: usize, serving: usize, m: usize) -> Split
+// How the m caches of the row that begins with x split, where `serving` is the serving node above it, at depth `above`. Records of
+// the file have `size` bytes.
+fn split_of(
+    file: &[u8],
+    size: usize,
+    tree: fields::Tree,
+    s: &[u64],
+    x: usize,
+    serving: usize,
+    above: usize,
+    m: usize,
+) -> Split
     requires { ⌜ RowToSplit (now file) (mayBe (treeOf (now file))) tree (now s) x serving m ⌝ }
+    requires { ⌜ (size ≡ recordLength (now file)) × (above ≡ wordOf (now s) serving depthWord) ⌝ }
     ensures { λ r. ⌜ r .later ≡ laterAt (treeOf (now (file .entry))) (demandOf (now (file .entry))) (mayBe (treeOf (now (file .entry)))) x serving m ⌝ }
     ensures { λ r. ⌜ r .member ≡ takesNode (treeOf (now (file .entry))) (demandOf (now (file .entry))) (mayBe (treeOf (now (file .entry)))) x serving (m - r .later) ⌝ }
 {
-    let above = node_words::depth_word(s, serving);
     let child = node_words::child_of(s, x);
     let cached = table::line(s, tree, child, node_words::depth_word(s, x));
     let uncached = table::line(s, tree, child, above);
     let sibling = node_words::sibling_of(s, x);
     let rest = table::line(s, tree, sibling, above);
-    let member = table::pays(file, s, x, x);
-    let other = table::pays(file, s, x, serving);
+    let part = fields::cachable_in(file, size, x);
+    let member = table::pays(file, size, part, s, x, x);
+    let other = table::pays(file, size, part, s, x, serving);
     let most = most_below(x, sibling, m);
     let later = lines::later(cached, uncached, rest, member, other, m, most);
     Split {
@@ -102,11 +114,13 @@ fn walk_row(
     ensures { λ r. ⌜ r ≡ start + count ⌝ }
     ensures { λ _. ⌜ now (rows .exit) ≡ sets (now (rows .entry)) start (bestNodes (treeOf (now (file .entry))) (demandOf (now (file .entry))) (mayBe (treeOf (now (file .entry)))) first serving count) ⌝ }
 {
+    let size = fields::record_length(file);
+    let above = node_words::depth_word(s, serving);
     let mut x = first;
     let mut m = count;
     let mut at = start;
     while 0 < m {
-        let split = split_of(file, tree, s, x, serving, m);
+        let split = split_of(file, size, tree, s, x, serving, above, m);
         let later = split.later;
         if later < m {
             at = walk_node(file, tree, s, rows, x, serving, m - later, split.member, at);

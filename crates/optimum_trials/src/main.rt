@@ -1,6 +1,6 @@
-// Sets the planner against full enumeration: on thousands of trees of at most six nodes, with ties of every kind, it compares
-// what the report holds at each budget, the bills of two sets and the rankings of many with a reference that shares no code with
-// the planner, and the report's buffers with those of the plan call and of the greedy call.
+// Sets the planner against full enumeration: on thousands of trees of at most six nodes, of either version and with ties of
+// every kind, it compares what the report holds at each budget, the bills of two sets and the rankings of many with a reference
+// that shares no code with the planner, and the report's buffers with those of the plan call and of the greedy call.
 //
 // It writes a line for each difference, and last how many trees and rankings it went through, how many of these were of two sets
 // with equal totals, and how many refusals by rule 12.
@@ -420,7 +420,7 @@ fn ranked_set(tree: SmallTree, i: u64, plan: u8) -> u8 {
 fn check_tree(i: u64, so_far: Count) -> Count {
     let tree = small_trees::nth_tree(i);
     let k = budget_of(tree);
-    let mut space = [0u8; 69];
+    let mut space = [0u8; 81];
     let n = small_trees::write_file(tree, &mut space);
     let file = &space[0..n];
     check_report(i, tree, k, file);

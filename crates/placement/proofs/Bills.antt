@@ -35,7 +35,7 @@ module _ (file k : List ℕ) (memory : BillMemory) where
   bill-refused : {q i : ℕ} → billVerdict file k memory ≡ broken q i → BillCall file k memory (refused q i) memory
   bill-refused e = record { answers = rw e; servingsAfter = rw e; loadsAfter = rw e }
 
-  -- a rule from 1 to 11 is broken
+  -- a rule about the file is broken
   pub bill-refused-file : {q i : ℕ} → broken q i ≡ fileVerdict file → BillCall file k memory (refused q i) memory
   unfolding billVerdict
   bill-refused-file e = bill-refused (rw (sym e))

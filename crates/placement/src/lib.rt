@@ -203,7 +203,7 @@ pub fn total_of(file: &[u8], n: usize, set: &[u16]) -> units::Total
     write_bill(file, n, set, &mut servings, &mut loads)
 }
 
-// The bill of a set: rules 1 to 11, 12 and 14, then its total, with the serving node and the load above each node written.
+// The bill of a set: the rules about the file, 12 and 14, then its total, with the serving node and the load above each node written.
 pub fn bill(file: &[u8], set: &[u16], servings: &mut [u16], loads: &mut [u64]) -> Billed
     ensures { λ r. ⌜ BillCall (now (file .entry)) (now (set .entry)) record { servings = now (servings .entry); loads = now (loads .entry) } (billAnswer r) record { servings = now (servings .exit); loads = now (loads .exit) } ⌝ }
 {

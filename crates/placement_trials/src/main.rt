@@ -63,7 +63,7 @@ fn bill_set(line: &[u8], file: &[u8], set: &[u16]) {
 }
 
 fn bill_case(line: &[u8]) {
-    let mut file = [0u8; 10300];
+    let mut file = trial_text::file_room();
     let n = trial_text::file_of(line, 5, &mut file);
     let mut set = [0u16; 1100];
     let m = trial_text::numbers_of(line, 2, &mut set);
@@ -79,7 +79,7 @@ fn rank_sets(line: &[u8], file: &[u8]) {
 }
 
 fn rank_case(line: &[u8]) {
-    let mut file = [0u8; 10300];
+    let mut file = trial_text::file_room();
     let n = trial_text::file_of(line, 4, &mut file);
     rank_sets(line, &file[0..n]);
 }

@@ -1,23 +1,23 @@
--- The program's questions: its first look, rules 1 to 11, and the rest of rule 15.
+-- The program's questions: its first look, the rules about the file, and the rest of rule 15.
 use mathlib.Core.Path.{_≡_}
 use mathlib.Core.Bool.{Bool, true, false, _&&_}
 use mathlib.Core.List.{List}
 use Prim.Native.Nat.{ℕ, _≤_, _<_}
 use native.Mathlib.Omega.{arith}
 use lib.Dec.{leb, ltb}
-use lib.ListN.{length, length-take, take}
+use lib.ListN.{length, take}
 use lib.Seq.{length-take-le, take-all}
-use borrow.Author.Tests.{lt-ltb, ltb-true}
+use borrow.Author.Tests.{lt-ltb}
 use Rattle.model.specs.Rules.{passed, _then_, fileVerdict, askProgram}
 use Rattle.model.specs.Calls.{answered, refused, answer}
-use Rattle.model.specs.Report.{firstLook, programNodes, programHeight, programBudget, isSmall, programVerdict}
+use Rattle.model.specs.Report.{firstLook, programNodes, programHeight, programBudget, isSmall, verdictWithin, programVerdict}
 use Rattle.model.proofs.Verdicts.{ask-passed, then-passed, answered-passed, refused-broken}
 use Rattle.fields.specs.declared.Tree as code
 use Rattle.tree_file.specs.Checks.{sizesOf}
 
 -- a file that the program accepts
 pub program-accepted : (file : List ℕ) → programVerdict file ≡ passed → (fileVerdict file ≡ passed) × (isSmall file ≡ true)
-unfolding programVerdict
+unfolding verdictWithin
 program-accepted file e =
     let look = then-passed (askProgram (ltb (length file) firstLook)) _ e in
     let rules = then-passed (fileVerdict file) _ (look .1) in
@@ -26,26 +26,18 @@ program-accepted file e =
 module _ (input : List ℕ) where
   -- all bytes of the first look are there
   pub look-full : firstLook ≤ length input → refused 15 0 ≡ answer (programVerdict (take firstLook input)) (sizesOf input)
-  unfolding programVerdict
+  unfolding verdictWithin
   look-full h = rw (length-take-le firstLook input h)
-
-  -- an accepted input was looked at whole
-  pub accepted-whole : programVerdict (take firstLook input) ≡ passed → take firstLook input ≡ input
-  unfolding programVerdict
-  accepted-whole e =
-      let looked = take firstLook input in
-      let less = ltb-true (length looked) firstLook (ask-passed 15 0 (ltb (length looked) firstLook) (then-passed _ _ e .0)) in
-      take-all firstLook input (omega (arith, less, length-take firstLook input))
 
   module _ (short : length input < firstLook) where
     looked-whole : take firstLook input ≡ input
     looked-whole = take-all firstLook input (omega arith)
 
     verdict-is : programVerdict (take firstLook input) ≡ (fileVerdict input then askProgram (isSmall input))
-    unfolding programVerdict
+    unfolding verdictWithin
     verdict-is = rw (looked-whole, lt-ltb (length input) firstLook short)
 
-    -- rules 1 to 11 refuse
+    -- the rules about the file refuse
     pub rules-refused : {q i : ℕ} → refused q i ≡ answer (fileVerdict input) (sizesOf input)
         → refused q i ≡ answer (programVerdict (take firstLook input)) (sizesOf input)
     rules-refused e = rw (verdict-is, refused-broken (fileVerdict input) (sizesOf input) e)

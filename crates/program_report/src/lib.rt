@@ -11,7 +11,7 @@ ghost use Rattle.program_report.specs.Memory.{reportOf};
 use tree_file::Checked;
 
 // The program looks at so many bytes of its input.
-pub const FIRST_LOOK: usize = 650;
+pub const FIRST_LOOK: usize = 778;
 
 // The limits of rule 15.
 const NODES: usize = 64;
@@ -47,7 +47,7 @@ fn is_small(tree: fields::Tree) -> bool
     tree.budget <= BUDGET
 }
 
-// Rules 1 to 11 and 15 of the program's input; n, k and h where they hold.
+// The rules about the file and rule 15, of the program's input; n, k and h where they hold.
 pub fn check(input: &[u8]) -> Checked
     ensures { λ r. ⌜ answerOf r ≡ answer (programVerdict (take firstLook (now (input .entry)))) (sizesOf (now (input .entry))) ⌝ }
 {

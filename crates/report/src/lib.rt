@@ -52,7 +52,7 @@ fn make_report(
 }
 
 // At each budget from 0 to k: the plan's total and row of nodes, and the greedy rule's total; and the greedy rule's nodes.
-// Rules 1 to 11, 13 and 14; nothing is written before they all hold.
+// The rules about the file, 13 and 14; nothing is written before they all hold.
 pub fn report(
     file: &[u8],
     scratch: &mut [u64],

@@ -10,15 +10,16 @@ use Rattle.laws.proofs.Rows.{flat-same}
 use Rattle.model.specs.File.{budgetOf}
 use Rattle.model.specs.Rules.{passed}
 use Rattle.model.specs.Calls.{answered, refused, answer, planTotals, planRows, greedyTotals}
-use Rattle.model.specs.Report.{reportText, firstLook, programVerdict, programText, refusalText}
+use Rattle.model.specs.Report.{reportText, firstLook, textWithin, programVerdict, programText, refusalText}
 use Rattle.model.proofs.Verdicts.{answered-passed, refused-broken}
+use Rattle.model.proofs.Versions.{looked-whole}
 use Rattle.model.proofs.Reported.{row-holds-plan, holds-plan-total, holds-greedy-total}
 use Rattle.model.proofs.Written.{written-there, length-plan-totals, length-plan-rows, length-greedy-totals}
 use Rattle.fields.specs.declared.Tree as code
 use Rattle.tree_file.specs.Checks.{sizesOf}
 use Rattle.program_report.specs.Memory.{reportOf}
 use Rattle.program_report.specs.declared.Report.{Report}
-use Rattle.program_report.proofs.Rules.{program-accepted, accepted-whole}
+use Rattle.program_report.proofs.Rules.{program-accepted}
 use Rattle.program_report.proofs.Memory.{limits}
 use Rattle.text_bytes.proofs.Appended.{append-keeps-length, appended-text}
 use Rattle.report_text.specs.Lines.{budgetLine, AppendedWithin, ReportBuffers}
@@ -68,15 +69,15 @@ module _ (input : List ℕ) where
       → (programVerdict input ≡ passed) × (sizes .budget ≡ budgetOf input)
   accepted-answer e =
       let told = answered-passed (programVerdict (take firstLook input)) (sizesOf input) e in
-      (rw (accepted-whole input (told .0)) at (told .0), ap (λ x. x .budget) (told .1))
+      (rw (looked-whole input (told .0) .0) at (told .0), ap (λ x. x .budget) (told .1))
 
   pub accepted-text : {sizes : code.Tree} → answered sizes ≡ answer (programVerdict (take firstLook input)) (sizesOf input)
       → programText input ≡ reportText input
-  unfolding programText
+  unfolding textWithin
   accepted-text e =
       let told = answered-passed (programVerdict (take firstLook input)) (sizesOf input) e in
-      rw (told .0, accepted-whole input (told .0))
+      rw (told .0, looked-whole input (told .0) .0)
 
   pub refused-text : {q i : ℕ} → refused q i ≡ answer (programVerdict (take firstLook input)) (sizesOf input) → programText input ≡ refusalText q i
-  unfolding programText
+  unfolding textWithin
   refused-text e = rw (refused-broken (programVerdict (take firstLook input)) (sizesOf input) e)

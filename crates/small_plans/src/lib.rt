@@ -59,13 +59,19 @@ fn less(a: u64, b: u64) -> u64
     a - b
 }
 
-// What the client at c would cost, in thousandths, served at v: flow × (1,000 × d(c) − hit × d(v)).
+// What the client at c would cost, in thousandths, served at v: flow × (1,000 × d(c) − hit × d(v)), and in version 2
+// 1,000 × (flow × d(c) − cachable × d(v)).
 fn price(tree: SmallTree, c: usize, v: usize) -> u64
     ensures { λ r. ⌜ r ≤ 4294967295 * 327675000 ⌝ }
 {
     let flow = small_trees::record_of(tree, c).flow as u64;
-    let hit = small_trees::record_of(tree, c).hit as u64;
-    flow * less(1000 * distance(tree, c), hit * distance(tree, v))
+    let share = small_trees::record_of(tree, c).share as u64;
+    let from_client = distance(tree, c);
+    let from_cache = distance(tree, v);
+    if small_trees::has_ratios(tree) {
+        return flow * less(1000 * from_client, share * from_cache);
+    }
+    1000 * less(flow * from_client, share * from_cache)
 }
 
 // The lower of a cost and the price at v, if v is one of the sites.
@@ -114,19 +120,31 @@ pub fn serving(tree: SmallTree, set: u8, c: usize) -> usize {
     small_trees::member(met, (members - 1) as usize)
 }
 
+// What the client at c puts on a link where a cache serves it: flow × (1,000 − hit), and in version 2
+// 1,000 × (flow − cachable).
+fn served_load(tree: SmallTree, c: usize) -> u64
+    ensures { λ r. ⌜ r ≤ 4294967295 * 1000 ⌝ }
+{
+    let flow = small_trees::record_of(tree, c).flow as u64;
+    let share = small_trees::record_of(tree, c).share as u64;
+    if small_trees::has_ratios(tree) {
+        return flow * less(1000, share);
+    }
+    1000 * less(flow, share)
+}
+
 // What the client at c puts on the link above v.
-fn share(tree: SmallTree, set: u8, c: usize, v: usize) -> u64
+fn client_load(tree: SmallTree, set: u8, c: usize, v: usize) -> u64
     ensures { λ r. ⌜ r ≤ 4294967295 * 1000 ⌝ }
 {
     let way = small_trees::route(tree, c);
-    let flow = small_trees::record_of(tree, c).flow as u64;
     if !small_trees::has(way, v) {
         return 0;
     }
     if set & way & at_or_below(tree, v) == 0 {
-        return flow * 1000;
+        return small_trees::record_of(tree, c).flow as u64 * 1000;
     }
-    flow * less(1000, small_trees::record_of(tree, c).hit as u64)
+    served_load(tree, c)
 }
 
 // The load on the link above v, 0 for the server.
@@ -136,12 +154,12 @@ pub fn load(tree: SmallTree, set: u8, v: usize) -> u64
     if v == 0 {
         return 0;
     }
-    share(tree, set, 0, v)
-        + share(tree, set, 1, v)
-        + share(tree, set, 2, v)
-        + share(tree, set, 3, v)
-        + share(tree, set, 4, v)
-        + share(tree, set, 5, v)
+    client_load(tree, set, 0, v)
+        + client_load(tree, set, 1, v)
+        + client_load(tree, set, 2, v)
+        + client_load(tree, set, 3, v)
+        + client_load(tree, set, 4, v)
+        + client_load(tree, set, 5, v)
 }
 
 // The load on the link above v times its length.

@@ -4,16 +4,18 @@
 ghost use Prim.Native.Nat.{_≤_};
 ghost use lib.ListN.{length};
 
-// What a tree file says of a node.
+// What a tree file says of a node. The share of its flow that a cache can serve is a hit ratio in thousandths in version 1,
+// and cachable bytes in version 2.
 pub struct Record {
     parent: u16,
     pub length: u16,
     pub flow: u32,
-    pub hit: u16,
+    pub share: u32,
 }
 
-// A tree, with zeros for the nodes that it lacks.
+// A tree and the version of its file, with zeros for the nodes that it lacks.
 pub struct SmallTree {
+    version: u16,
     pub nodes: usize,
     pub budget: usize,
     records: [Record; 6],
@@ -24,8 +26,13 @@ const NO_RECORD: Record = Record {
     parent: 0,
     length: 0,
     flow: 0,
-    hit: 0,
+    share: 0,
 };
+
+// Are the shares hit ratios?
+pub fn has_ratios(tree: SmallTree) -> bool {
+    tree.version == 1
+}
 
 // What the tree says of node v.
 pub fn record_of(tree: SmallTree, v: usize) -> Record {
@@ -145,34 +152,64 @@ fn pair(file: &[u8], at: usize) -> u16
     byte(file, at) as u16 * 256 + byte(file, at + 1) as u16
 }
 
+// The number of four bytes.
+fn quad(file: &[u8], at: usize) -> u32
+    requires { ⌜ at ≤ 98 ⌝ }
+{
+    pair(file, at) as u32 * 65536 + pair(file, at + 2) as u32
+}
+
+// Where the record of node v begins: a record has ten bytes in version 1 and twelve in version 2.
+fn record_at(version: u16, v: usize) -> usize
+    requires { ⌜ v ≤ 6 ⌝ }
+    ensures { λ r. ⌜ r ≤ 81 ⌝ }
+{
+    if version == 1 {
+        return 9 + 10 * v;
+    }
+    9 + 12 * v
+}
+
+// The share in the record that begins at `at`.
+fn read_share(file: &[u8], version: u16, at: usize) -> u32
+    requires { ⌜ at ≤ 81 ⌝ }
+{
+    if version == 1 {
+        return pair(file, at + 8) as u32;
+    }
+    quad(file, at + 8)
+}
+
 // What a file says of node v, zeros past its end.
-fn read_record(file: &[u8], v: usize) -> Record
+fn read_record(file: &[u8], version: u16, v: usize) -> Record
     requires { ⌜ v ≤ 5 ⌝ }
 {
-    let at = 9 + 10 * v;
+    let at = record_at(version, v);
     let parent = pair(file, at);
     let length = pair(file, at + 2);
-    let flow = pair(file, at + 4) as u32 * 65536 + pair(file, at + 6) as u32;
-    let hit = pair(file, at + 8);
+    let flow = quad(file, at + 4);
+    let share = read_share(file, version, at);
     Record {
         parent,
         length,
         flow,
-        hit,
+        share,
     }
 }
 
 // The tree of an accepted file of at most six nodes.
 pub fn read_file(file: &[u8]) -> SmallTree {
+    let version = pair(file, 3);
     let records = [
-        read_record(file, 0),
-        read_record(file, 1),
-        read_record(file, 2),
-        read_record(file, 3),
-        read_record(file, 4),
-        read_record(file, 5),
+        read_record(file, version, 0),
+        read_record(file, version, 1),
+        read_record(file, version, 2),
+        read_record(file, version, 3),
+        read_record(file, version, 4),
+        read_record(file, version, 5),
     ];
     SmallTree {
+        version,
         nodes: pair(file, 5) as usize,
         budget: pair(file, 7) as usize,
         records,
@@ -181,14 +218,15 @@ pub fn read_file(file: &[u8]) -> SmallTree {
 
 // The header of the tree's file.
 fn header(tree: SmallTree) -> [u8; 9] {
+    let version = tree.version;
     let nodes = tree.nodes;
     let budget = tree.budget;
     [
         b'K',
         b'T',
         b'R',
-        0,
-        1,
+        (version / 256) as u8,
+        (version % 256) as u8,
         (nodes / 256 % 256) as u8,
         (nodes % 256) as u8,
         (budget / 256 % 256) as u8,
@@ -196,12 +234,12 @@ fn header(tree: SmallTree) -> [u8; 9] {
     ]
 }
 
-// The ten bytes of a record.
-fn record_bytes(record: Record) -> [u8; 10] {
+// The twelve bytes of a record of version 2.
+fn record_bytes(record: Record) -> [u8; 12] {
     let parent = record.parent;
     let length = record.length;
     let flow = record.flow;
-    let hit = record.hit;
+    let share = record.share;
     [
         (parent / 256) as u8,
         (parent % 256) as u8,
@@ -211,9 +249,30 @@ fn record_bytes(record: Record) -> [u8; 10] {
         (flow / 65536 % 256) as u8,
         (flow / 256 % 256) as u8,
         (flow % 256) as u8,
-        (hit / 256) as u8,
-        (hit % 256) as u8,
+        (share / 16777216) as u8,
+        (share / 65536 % 256) as u8,
+        (share / 256 % 256) as u8,
+        (share % 256) as u8,
     ]
+}
+
+// Where byte `place` of a record of version 1 stands in one of version 2: a share has its last two bytes only.
+fn with_long_share(place: usize) -> usize
+    requires { ⌜ place ≤ 9 ⌝ }
+    ensures { λ r. ⌜ r ≤ 11 ⌝ }
+{
+    if place < 8 {
+        return place;
+    }
+    place + 2
+}
+
+// Byte `place` of the record of node v.
+fn record_byte(tree: SmallTree, v: usize, place: usize) -> u8
+    requires { ⌜ place ≤ 11 ⌝ }
+{
+    let bytes = record_bytes(record_of(tree, v));
+    bytes[place]
 }
 
 // A byte of the tree's file.
@@ -222,17 +281,18 @@ fn file_byte(tree: SmallTree, at: usize) -> u8 {
         let bytes = header(tree);
         return bytes[at];
     }
-    let place = (at - 9) % 10;
-    let bytes = record_bytes(record_of(tree, (at - 9) / 10));
-    bytes[place]
+    if has_ratios(tree) {
+        return record_byte(tree, (at - 9) / 10, with_long_share((at - 9) % 10));
+    }
+    record_byte(tree, (at - 9) / 12, (at - 9) % 12)
 }
 
-// The size of the tree's file, at most 69 bytes.
+// The size of the tree's file, at most 81 bytes.
 fn file_size(tree: SmallTree) -> usize {
     if tree.nodes <= 6 {
-        return 9 + 10 * tree.nodes;
+        return record_at(tree.version, tree.nodes);
     }
-    69
+    81
 }
 
 // Writes the tree's file, as much as fits, at the start of `out`, and answers how many bytes there are.
@@ -264,7 +324,8 @@ fn after(number: u64) -> u64 {
 // The styles from here on have clients only at nodes without children.
 const LEAVES: u64 = 27;
 
-// A style: 27 with clients anywhere, and as often one of four with clients at leaves, positive values and hit 1,000.
+// A style: 27 with clients anywhere, and as often one of four with clients at leaves, positive values and all of a flow
+// cachable.
 fn style_by(number: u64) -> u64 {
     let style = number % 54;
     if style < LEAVES {
@@ -321,13 +382,55 @@ fn parent_by(tree: SmallTree, v: usize, number: u64) -> u16 {
     (member(way, (number % choices) as usize) % 6) as u16
 }
 
+// A flow; in version 2 three times as large, so that a part of it is seldom a whole thousandth.
+fn flow_by(tree: SmallTree, number: u64, style: u64) -> u64
+    ensures { λ r. ⌜ r ≤ 6 ⌝ }
+{
+    let flow = value(number, style);
+    if has_ratios(tree) {
+        return flow;
+    }
+    3 * flow
+}
+
+// By style: the flow; the flow or 1 to 5 bytes of it; nothing, the flow or 1 to 5 bytes of it.
+fn cachable_by(number: u64, style: u64, flow: u64) -> u64
+    requires { ⌜ flow ≤ 6 ⌝ }
+    ensures { λ r. ⌜ r ≤ 6 ⌝ }
+{
+    let choice = value(number, style);
+    let bytes = 1 + number / 6 % 5;
+    if choice == 0 {
+        return 0;
+    }
+    if choice == 1 {
+        return flow;
+    }
+    if bytes < flow {
+        return bytes;
+    }
+    flow
+}
+
+// A share of this flow.
+fn share_by(tree: SmallTree, number: u64, style: u64, flow: u64) -> u64
+    requires { ⌜ flow ≤ 6 ⌝ }
+    ensures { λ r. ⌜ r ≤ 1000 ⌝ }
+{
+    if has_ratios(tree) {
+        return hit_by(number, style);
+    }
+    cachable_by(number, style, flow)
+}
+
 // A record for node v of a tree that has those before it.
 fn record_by(tree: SmallTree, v: usize, number: u64, style: u64) -> Record {
+    let flow = flow_by(tree, number / 360, style / 3);
     Record {
         parent: parent_by(tree, v, number),
         length: length_by(v, number / 60, style) as u16,
-        flow: value(number / 360, style / 3) as u32,
-        hit: hit_by(number / 2160, style / 9) as u16,
+        flow: flow as u32,
+        share: share_by(tree, number / 2160, style / 9, flow) as u32,
     }
 }
 
@@ -340,10 +443,13 @@ fn with_record(tree: SmallTree, v: usize, record: Record) -> SmallTree {
     next
 }
 
-// The tree with no flow at v.
+// The tree with no flow at v, and no cachable bytes.
 fn without_client(tree: SmallTree, v: usize) -> SmallTree {
     let mut record = record_of(tree, v);
     record.flow = 0;
+    if !has_ratios(tree) {
+        record.share = 0;
+    }
     with_record(tree, v, record)
 }
 
@@ -359,21 +465,31 @@ fn grown(tree: SmallTree, v: usize, number: u64, style: u64) -> SmallTree {
     with_record(without_client(tree, record.parent as usize), v, record)
 }
 
+// One version as often as the other.
+fn version_by(number: u64) -> u16 {
+    1 + (number % 2) as u16
+}
+
 // A tree whose records are still to come.
-fn bare_tree(nodes: usize, budget: usize) -> SmallTree {
+fn bare_tree(version: u16, nodes: usize, budget: usize) -> SmallTree {
     SmallTree {
+        version,
         nodes,
         budget,
         records: [NO_RECORD; 6],
     }
 }
 
-// Tree i of a fixed sequence: 1 to 6 nodes, a budget from 0 to 6, and records by the numbers that follow i.
+// Tree i of a fixed sequence: either version, 1 to 6 nodes, a budget from 0 to 6, and records by the numbers that follow i.
 pub fn nth_tree(i: u64) -> SmallTree {
     let place = (i % 12) as usize;
     let mut number = after(after(i % 1000000 + 1));
     let style = style_by(number / 7);
-    let mut tree = bare_tree(COUNTS[place], (number % 7) as usize);
+    let mut tree = bare_tree(
+        version_by(number / 378),
+        COUNTS[place],
+        (number % 7) as usize,
+    );
     let mut v = 0;
     while v < 6 {
         number = after(number);

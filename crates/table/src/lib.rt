@@ -4,12 +4,13 @@ ghost use mathlib.Core.Path.{_≡_};
 ghost use Prim.Native.Nat.{_+_, _≤_, _<_};
 ghost use lib.ListN.{length};
 ghost use lib.Seq.{sets};
-ghost use Rattle.model.specs.File.{treeOf, demandOf};
-ghost use Rattle.model.specs.Bill.{price};
+ghost use Rattle.model.specs.File.{recordLength, treeOf, demandOf};
+ghost use Rattle.model.specs.Bill.{cachable, price};
 ghost use Rattle.best_rows.specs.Guarded.{mayBe};
 ghost use Rattle.node_words.specs.RowNodes.{RowNodes};
 ghost use Rattle.lines.specs.Line.{mostWidth};
 ghost use Rattle.table.specs.Table.{width, lineNumber, lineAt, tableEnd, InTable, lineIn, lineFor, TableRoom, NodeWordsStored, LinesFilled, TableFrom, Served, Client, EmptyTo};
+use units::Flow;
 use units::Total;
 
 // ---- the layout of the table, in these three functions only
@@ -42,13 +43,15 @@ pub fn line<'a>(s: &'a [u64], tree: fields::Tree, x: usize, a: usize) -> &'a [u6
 
 // ---- a node's own cost
 
-// What node v pays if u serves it: its flow over its distance, without the cachable part over that of u.
-pub fn pays(file: &[u8], s: &[u64], v: usize, u: usize) -> Total
+// What node v pays if u serves it: its flow over its distance, without the cachable part over that of u. Records of the file have
+// `size` bytes, and `part` is the cachable part.
+pub fn pays(file: &[u8], size: usize, part: Flow, s: &[u64], v: usize, u: usize) -> Total
     requires { ⌜ Client (now file) (now s) v u ⌝ }
+    requires { ⌜ (size ≡ recordLength (now file)) × (part .0 ≡ cachable (demandOf (now file)) v) ⌝ }
     ensures { λ r. ⌜ r .0 ≡ price (treeOf (now (file .entry))) (demandOf (now (file .entry))) v u ⌝ }
 {
-    let all = fields::flow_of(file, v).over(node_words::distance_of(s, v));
-    let saved = fields::cachable_of(file, v).over(node_words::distance_of(s, u));
+    let all = fields::flow_in(file, size, v).over(node_words::distance_of(s, v));
+    let saved = part.over(node_words::distance_of(s, u));
     all.without(saved)
 }
 
@@ -59,6 +62,7 @@ pub fn pays(file: &[u8], s: &[u64], v: usize, u: usize) -> Total
 // made in place, from local copies, because `rest` is in s too.
 fn fill_one(
     file: &[u8],
+    size: usize,
     tree: fields::Tree,
     s: &mut [u64],
     counts: &[usize],
@@ -69,6 +73,7 @@ fn fill_one(
     requires { ⌜ TableFrom (now file) (mayBe (treeOf (now file))) tree (now s) (lineNumber tree v a + 1) ⌝ }
     requires { ⌜ RowNodes (treeOf (now file)) (now counts) ⌝ }
     requires { ⌜ Served (treeOf (now file)) v a u ⌝ }
+    requires { ⌜ size ≡ recordLength (now file) ⌝ }
     ensures { λ _. ⌜ now (s .exit) ≡ sets (now (s .entry)) (lineAt tree v a) (lineFor (treeOf (now (file .entry))) (demandOf (now (file .entry))) (mayBe (treeOf (now (file .entry)))) (width tree) v a) ⌝ }
 {
     let old = &s[..];
@@ -78,8 +83,9 @@ fn fill_one(
     let cached = line(old, tree, child, depth);
     let uncached = line(old, tree, child, a);
     let rest = line(old, tree, sibling, a);
-    let member = pays(file, old, v, v);
-    let other = pays(file, old, v, u);
+    let part = fields::cachable_in(file, size, v);
+    let member = pays(file, size, part, old, v, v);
+    let other = pays(file, size, part, old, v, u);
     let below = counts[child];
     let after = counts[sibling];
     let w = width(tree);
@@ -113,12 +119,13 @@ fn fill_node(file: &[u8], tree: fields::Tree, s: &mut [u64], counts: &[usize], v
     requires { ⌜ RowNodes (treeOf (now file)) (now counts) ⌝ }
     ensures { λ _. ⌜ LinesFilled (now (file .entry)) (mayBe (treeOf (now (file .entry)))) tree (lineNumber tree v 0) (now (s .entry)) (now (s .exit)) ⌝ }
 {
+    let size = fields::record_length(file);
     let mut a = node_words::depth_word(s, v);
     let mut u = v;
     while 0 < a {
         a -= 1;
-        u = fields::parent_of(file, u);
-        fill_one(file, tree, s, counts, v, a, u);
+        u = fields::parent_in(file, size, u);
+        fill_one(file, size, tree, s, counts, v, a, u);
     }
 }
 

@@ -10,11 +10,10 @@ fn print_text(file: &[u8]) {
     io::write_all(STDOUT_FILENO, &bytes[0..end]);
 }
 
-// A file has at most 10,300 bytes here: the longest that any rule accepts has 10,249.
 fn answer_line(line: &[u8]) {
     trial_text::print_name(line);
     trial_text::end_line();
-    let mut space = [0u8; 10300];
+    let mut space = trial_text::file_room();
     let n = trial_text::file_of(line, 1, &mut space);
     print_text(&space[0..n]);
 }

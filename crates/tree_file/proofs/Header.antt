@@ -1,15 +1,15 @@
--- The mark at a file's start, byte by byte, and the file's exact length.
-use mathlib.Core.Path.{_≡_, refl, sym, ap, _∙_}
+-- The mark at a file's start, byte by byte.
+use mathlib.Core.Path.{_≡_, refl, sym, _∙_}
 use mathlib.Core.Bool.{true, false, _&&_}
 use mathlib.Core.List.{List, [], _∷_}
-use Prim.Native.Nat.{ℕ, _+_, _*_, _≤_}
+use Prim.Native.Nat.{ℕ, _≤_}
 use native.Mathlib.Omega.{arith}
 use lib.Dec.{eqb}
 use lib.ListN.{length, getD}
-use borrow.Author.Tests.{eq-eqb, ne-eqb, eqb-true}
+use borrow.Author.Tests.{eq-eqb, eqb-true}
 use Rattle.laws.specs.Lists.{same}
 use Rattle.laws.proofs.Bools.{by-test, both}
-use Rattle.model.specs.File.{headerLength, countOf, recordLength, recordAt}
+use Rattle.model.specs.File.{headerLength}
 use Rattle.model.specs.Rules.{marked}
 
 -- the file begins with K, T and R
@@ -37,14 +37,3 @@ module _ (file : List ℕ) (long : headerLength ≤ length file) where
       let z = both (eqb (getD file 2 0) 0x52) _ (y .1) in
       absurd (n (eqb-true _ _ (x .0), eqb-true _ _ (y .0), eqb-true _ _ (z .0))))
       (λ _. refl)
-
--- ---- rule 6, as the code asks it
-
-module _ (file : List ℕ) {n : ℕ} (e : n ≡ countOf file) where
-  pub exact-held : length file ≡ headerLength + 10 * n → eqb (length file) (recordAt file (countOf file)) ≡ true
-  unfolding recordLength
-  exact-held h = eq-eqb _ _ (h ∙ ap (recordAt file) e)
-
-  pub exact-failed : (length file ≡ headerLength + 10 * n → ⊥) → eqb (length file) (recordAt file (countOf file)) ≡ false
-  unfolding recordLength
-  exact-failed h = ne-eqb _ _ (λ g. h (g ∙ sym (ap (recordAt file) e)))

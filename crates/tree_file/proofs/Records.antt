@@ -1,6 +1,6 @@
--- Rules 7 to 11, record by record.
+-- Rules 7 to 11 and 17, record by record.
 use mathlib.Core.Path.{_≡_, refl, sym, ap, ap₂, _∙_}
-use mathlib.Core.Bool.{Bool, true}
+use mathlib.Core.Bool.{Bool, true, false}
 use mathlib.Core.List.{List}
 use Prim.Native.Nat.{ℕ, zero, suc, _+_, _-_, _≤_, _<_}
 use native.Mathlib.Decide.{decLt}
@@ -8,10 +8,11 @@ use native.Mathlib.Numerals.{add-one}
 use native.Mathlib.Omega.{arith}
 use lib.Dec.{leb, eqb}
 use Rattle.laws.specs.Lists.{has}
-use Rattle.model.specs.File.{Tree, treeOf, lengthField}
+use Rattle.model.specs.File.{Tree, treeOf, demandOf, hasRatios, lengthField, flowField, hitField, cachableField, fieldOf}
 use Rattle.model.specs.Tree.{route}
-use Rattle.model.specs.Rules.{passed, broken, _then_, parentHolds, lengthHolds, recordVerdict, recordsVerdict}
+use Rattle.model.specs.Rules.{passed, broken, ask, _then_, askShare, parentHolds, lengthHolds, recordVerdict, recordsVerdict}
 use Rattle.model.specs.Preorder.{PreorderTo}
+use Rattle.model.proofs.Amounts.{share-ratio, share-bytes}
 use Rattle.model.proofs.Accepted.{record-holds, record-before}
 use Rattle.tree_file.specs.Checks.{NextRecord, Climbable, RecordsThere}
 use Rattle.tree_file.proofs.Climbs.{earlier-in-file}
@@ -36,6 +37,17 @@ module _ (t : Tree) where
   unfolding lengthHolds
   length-of-other zero b z h = absurd (z refl)
   length-of-other (suc i) b z h = h
+
+-- ---- rules 11 and 17, by the version
+
+module _ (file : List ℕ) (i : ℕ) where
+  pub ratio-asked : hasRatios file ≡ true
+      → askShare i (demandOf file .flow i) (demandOf file .share i) ≡ ask 11 i (leb (fieldOf file hitField i) (hitField .most))
+  ratio-asked e = rw (share-ratio file i e)
+
+  pub bytes-asked : hasRatios file ≡ false
+      → askShare i (demandOf file .flow i) (demandOf file .share i) ≡ ask 17 i (leb (fieldOf file cachableField i) (fieldOf file flowField i))
+  bytes-asked e = rw (share-bytes file i e)
 
 -- ---- one record after the other
 

@@ -1,11 +1,13 @@
-// The check of a tree file by rules 1 to 11, the record of a node, and the check for a C host.
+// The check of a tree file by the rules about the file itself, 1 to 11 and 17; the record of a node; the check for a C host.
 ghost use mathlib.Core.Path.{_≡_};
+ghost use mathlib.Core.Bool.{false};
 ghost use Prim.Native.Nat.{_≤_, max};
+ghost use lib.Dec.{leb};
 ghost use lib.ListN.{length};
 ghost use denote.Builtin.{u8};
 ghost use Rattle.laws.specs.Lists.{has};
 ghost use Rattle.laws.specs.Slices.{PartOf};
-ghost use Rattle.model.specs.File.{countOf, headerLength, recordAt, recordLength, treeOf};
+ghost use Rattle.model.specs.File.{headerLength, countOf, hasRatios, recordLength, recordAt, flowField, cachableField, fieldOf, treeOf};
 ghost use Rattle.model.specs.Tree.{route, depth, height};
 ghost use Rattle.model.specs.Rules.{passed, marked, parentHolds, lengthHolds, recordVerdict, recordsVerdict, fileVerdict};
 ghost use Rattle.model.specs.Calls.{answer, checkNumber, recordBytes};
@@ -55,7 +57,7 @@ fn depth_of(file: &[u8], depths: &[usize], v: usize) -> usize
     depths[parent] + 1
 }
 
-// ---- rules 7 to 11, record by record
+// ---- rules 7 to 11 and 17, record by record
 
 // Rule 7.
 fn parent_holds(file: &[u8], i: usize) -> bool
@@ -80,7 +82,17 @@ fn length_holds(file: &[u8], i: usize) -> bool
     fields::within(file, fields::Tree::LENGTH_FIELD, i)
 }
 
-// Rules 7 to 11 of record i, where they hold of the records before it and their depths are kept.
+// Rule 17.
+fn cachable_holds(file: &[u8], i: usize) -> bool
+    requires { ⌜ hasRatios (now file) ≡ false ⌝ }
+    requires { ⌜ InFile (now file) i ⌝ }
+    ensures { λ r. ⌜ r ≡ leb (fieldOf (now (file .entry)) cachableField i) (fieldOf (now (file .entry)) flowField i) ⌝ }
+{
+    let flow = fields::field_of(file, fields::Tree::FLOW_FIELD, i);
+    fields::field_of(file, fields::Tree::CACHABLE_FIELD, i) <= flow
+}
+
+// The rules of record i, where they hold of the records before it and their depths are kept.
 fn record_ruling(file: &[u8], depths: &[usize], i: usize) -> Ruling
     requires { ⌜ NextRecord (now file) i ⌝ }
     requires { ⌜ DepthsTo (treeOf (now file)) (now depths) i ⌝ }
@@ -99,13 +111,19 @@ fn record_ruling(file: &[u8], depths: &[usize], i: usize) -> Ruling
     if !fields::within(file, fields::Tree::FLOW_FIELD, i) {
         return Ruling::Broken(10, record);
     }
-    if !fields::within(file, fields::Tree::HIT_FIELD, i) {
-        return Ruling::Broken(11, record);
+    if fields::has_ratios(file) {
+        if !fields::within(file, fields::Tree::HIT_FIELD, i) {
+            return Ruling::Broken(11, record);
+        }
+        return Ruling::Passed;
+    }
+    if !cachable_holds(file, i) {
+        return Ruling::Broken(17, record);
     }
     Ruling::Passed
 }
 
-// Each of the first n records through rules 7 to 11 before the next.
+// Each of the first n records through its rules before the next.
 fn records_ruling(file: &[u8], n: usize) -> Ruling
     requires { ⌜ RecordsThere (now file) n ⌝ }
     ensures { λ r. ⌜ verdictOf r ≡ recordsVerdict (now (file .entry)) n ⌝ }
@@ -126,7 +144,7 @@ fn records_ruling(file: &[u8], n: usize) -> Ruling
     Ruling::Passed
 }
 
-// ---- rules 1 to 11
+// ---- the rules about the file itself
 
 // Rule 2.
 fn is_marked(file: &[u8]) -> bool
@@ -146,7 +164,7 @@ fn is_marked(file: &[u8]) -> bool
     true
 }
 
-// Rules 1 to 11.
+// The rules about the file: 1 to 10, then 11 in version 1 and 17 in version 2.
 pub fn file_ruling(file: &[u8]) -> Ruling
     ensures { λ r. ⌜ verdictOf r ≡ fileVerdict (now (file .entry)) ⌝ }
 {
@@ -156,7 +174,11 @@ pub fn file_ruling(file: &[u8]) -> Ruling
     if !is_marked(file) {
         return Ruling::Broken(2, 0);
     }
-    if fields::version_of(file) != fields::Tree::VERSION {
+    let version = fields::version_of(file);
+    if version < fields::Tree::FIRST_VERSION {
+        return Ruling::Broken(3, 0);
+    }
+    if fields::Tree::NEWEST_VERSION < version {
         return Ruling::Broken(3, 0);
     }
     let n = fields::count_of(file);
@@ -169,7 +191,7 @@ pub fn file_ruling(file: &[u8]) -> Ruling
     if fields::Tree::BUDGET < fields::budget_of(file) {
         return Ruling::Broken(5, 0);
     }
-    if file.len() != fields::Tree::HEADER + fields::Tree::RECORD * n {
+    if file.len() != fields::record_at(file, n) {
         return Ruling::Broken(6, 0);
     }
     records_ruling(file, n)
@@ -202,7 +224,7 @@ fn height_of(file: &[u8], n: usize) -> usize
     tallest
 }
 
-// Rules 1 to 11, and n, k and h of an accepted file.
+// The rules about the file, and n, k and h of an accepted one.
 pub fn check(file: &[u8]) -> Checked
     ensures { λ r. ⌜ answerOf r ≡ answer (fileVerdict (now (file .entry))) (sizesOf (now (file .entry))) ⌝ }
 {
@@ -224,16 +246,17 @@ pub fn check(file: &[u8]) -> Checked
 
 // ---- services
 
-fn record_at(file: &[u8], v: usize) -> &[u8]
+// The bytes of node v inside the caller's file.
+fn record_part(file: &[u8], v: usize) -> &[u8]
     requires { ⌜ InFile (now file) v ⌝ }
     ensures { λ r. ⌜ PartOf u8 (file .entry) (recordAt (now (file .entry)) v) (recordLength (now (file .entry))) r ⌝ }
 {
-    let start = fields::Tree::HEADER + fields::Tree::RECORD * v;
-    let end = start + fields::Tree::RECORD;
+    let start = fields::record_at(file, v);
+    let end = start + fields::record_length(file);
     &file[start..end]
 }
 
-// The ten bytes of node v inside the caller's file, empty if the file is refused or v is not below n.
+// The record of node v inside the caller's file, empty if the file is refused or v is not below n.
 pub fn record_of(file: &[u8], v: usize) -> &[u8]
     ensures { λ r. ⌜ now r ≡ recordBytes (now (file .entry)) v ⌝ }
     ensures { λ r. ⌜ RecordHandedBack (file .entry) v r ⌝ }
@@ -244,13 +267,13 @@ pub fn record_of(file: &[u8], v: usize) -> &[u8]
             if fields::count_of(file) <= v {
                 return &file[0..0];
             }
-            record_at(file, v)
+            record_part(file, v)
         }
         Ruling::Broken(_, _) => &file[0..0],
     }
 }
 
-// For a C host: 0, or the number of the first broken rule among 1 to 11.
+// For a C host: 0, or the number of the first broken rule about the file.
 #[no_mangle]
 pub extern "C" fn kterc_check(file: &[u8]) -> u32
     ensures { λ r. ⌜ r ≡ checkNumber (now (file .entry)) ⌝ }

@@ -6,7 +6,7 @@ ghost use lib.Dec.{ltb};
 // A sum of link lengths.
 pub struct Distance(pub u64);
 
-// Thousandths of a flow: all of it is 1,000 × f, its cachable part f × p.
+// Thousandths of a flow: all of it is 1,000 × f, its cachable part f × p or 1,000 × the cachable bytes.
 pub struct Flow(pub u64);
 
 // Thousandths of flow over distance.

@@ -4,7 +4,7 @@ use Prim.Native.Nat.{_-_, _≤_, _<_}
 use native.Mathlib.Omega.{arith}
 use borrow.Author.Needs.{needs}
 use Rattle.model.specs.File.{treeOf}
-use Rattle.node_words.proofs.Words.{room-record, room-parent}
+use Rattle.node_words.proofs.Words.{room-header, room-record, room-parent}
 use Rattle.greedy.specs.Savings.{servingDistance}
 use Rattle.greedy.specs.Words.{servingDistanceWord, markedSites, Wrote, DistancesStored}
 use Rattle.greedy.proofs.Words.{wrote-nothing, wrote-next}
@@ -13,20 +13,24 @@ use Rattle.greedy.proofs.serve.Statement.{statement}
 use Rattle.greedy.proofs.serve.Tie as tie
 
 abbrev Inv-loop : tie.InvT-loop
-Inv-loop file n words₀ x v₀ words v = (0 < v) × (v ≤ n) × DistancesStored file n words₀ × Wrote n servingDistanceWord (servingDistance (treeOf file) (markedSites n words₀)) v words₀ words
+Inv-loop file n words₀ x size v₀ words v = (0 < v) × (v ≤ n) × DistancesStored file n words₀ × Wrote n servingDistanceWord (servingDistance (treeOf file) (markedSites n words₀)) v words₀ words
 
 abbrev μ-loop : tie.MeasureT-loop
-μ-loop file n words₀ x v₀ words v = n - v
+μ-loop file n words₀ x size v₀ words v = n - v
+
+record-length-requires : tie.Need-record-length-requires Inv-loop μ-loop
+record-length-requires c κs = room-header (c .before .before .pre .0 .0 .room)
 
 loop-holds : tie.Need-loop-holds Inv-loop μ-loop
-loop-holds c = let st = c .before .before in (st .pre .0 .1, omega (arith, st .pre .0 .2), st .pre .0 .0, wrote-nothing _ _ _ (st .pre .1))
+loop-holds c = let st = c .before .before .before in (st .pre .0 .1, omega (arith, st .pre .0 .2), st .pre .0 .0, wrote-nothing _ _ _ (st .pre .1))
 
 served-at-requires : tie.Need-served-at-requires Inv-loop μ-loop
 served-at-requires c κs =
     let l = c .before .before .loop in
     let below = c .before .loop-test .taken in
+    let sized = c .before .before .before in
     let up = room-parent (record { nodes = l .inv .2 .room; site = l .inv .0; below = below }) in
-    (room-record (l .inv .2 .room) below, omega (arith, up, l .inv .2 .room .room, l .inv .3 .front .long))
+    (sized .record-length .ensures, (room-record (l .inv .2 .room) below, omega (arith, up, l .inv .2 .room .room, l .inv .3 .front .long)))
 
 put-requires : tie.Need-put-requires Inv-loop μ-loop
 put-requires c κs = let l = c .before .before .before .before .loop in omega (arith, l .inv .2 .room .room, l .inv .3 .front .long, c .before .before .before .loop-test .taken)
@@ -47,7 +51,7 @@ same-length : tie.Need-same-length Inv-loop μ-loop
 same-length c = search needs
 
 returns : tie.Need-returns Inv-loop μ-loop
-returns c = let l = c .before .loop in let all : l .v ≡ c .before .before .before .before .args .n = omega arith in rw all at (l .inv .3)
+returns c = let l = c .before .loop in let all : l .v ≡ c .before .before .before .before .before .args .n = omega arith in rw all at (l .inv .3)
 
 pub serve-spec : {M : Type 1} → statement M
 serve-spec =
@@ -55,6 +59,7 @@ serve-spec =
     (tie.spec
     Inv-loop
     μ-loop
+    record-length-requires
     loop-holds
     served-at-requires
     put-requires

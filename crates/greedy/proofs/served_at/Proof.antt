@@ -14,14 +14,14 @@ distance-of-requires c κs = search needs
 returns : tie.Need-returns
 returns c = rw (eq-eqb _ _ (sym (c .before .before .word .ensures) ∙ c .before .if1 .taken)) (c .distance-of .ensures)
 
-parent-of-requires : tie.Need-parent-of-requires
-parent-of-requires c κs = search needs
+parent-in-requires : tie.Need-parent-in-requires
+parent-in-requires c κs = search needs
 
 word-requires-2 : tie.Need-word-requires-2
 word-requires-2 c κs = search needs
 
 returns-2 : tie.Need-returns-2
-returns-2 c = rw (ne-eqb _ _ (λ e. c .before .before .if1 .left (c .before .before .before .word .ensures ∙ e))) (rw (c .before .parent-of .ensures) at (c .word2 .ensures))
+returns-2 c = rw (ne-eqb _ _ (λ e. c .before .before .if1 .left (c .before .before .before .word .ensures ∙ e))) (rw (c .before .parent-in .ensures) at (c .word2 .ensures))
 
 pub served-at-spec : {M : Type 1} → statement M
 served-at-spec =
@@ -30,6 +30,6 @@ served-at-spec =
     word-requires
     distance-of-requires
     returns
-    parent-of-requires
+    parent-in-requires
     word-requires-2
     returns-2)

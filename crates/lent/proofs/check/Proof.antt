@@ -1,4 +1,4 @@
--- `check`: rules 1 to 11, then rule 13.
+-- `check`: the rules about the file, then rule 13.
 use mathlib.Core.Path.{sym, ap, _∙_}
 use borrow.Author.Needs.{needs}
 use Rattle.laws.proofs.Bools.{held, failed}

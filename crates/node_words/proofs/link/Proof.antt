@@ -5,32 +5,38 @@ use native.Mathlib.Omega.{arith}
 use borrow.Author.Needs.{needs}
 use Rattle.model.specs.File.{treeOf}
 use Rattle.node_words.specs.Words.{NodeRoom, Linked, LinksOnly}
-use Rattle.node_words.proofs.Words.{room-some, room-kept}
+use Rattle.node_words.proofs.Words.{room-some, room-header, room-kept}
 use Rattle.node_words.proofs.Links.{links-only-none, links-only-then, linked-last}
 use Rattle.node_words.proofs.link.Statement.{statement}
 use Rattle.node_words.proofs.link.Tie as tie
 
 abbrev Inv-loop : tie.InvT-loop
-Inv-loop file n words₀ v₀ words v = (v < n) × NodeRoom file n words × Linked (treeOf file) words v × LinksOnly n words₀ words
+Inv-loop file n words₀ size v₀ words v = (v < n) × NodeRoom file n words × Linked (treeOf file) words v × LinksOnly n words₀ words
 
 abbrev μ-loop : tie.MeasureT-loop
-μ-loop file n words₀ v₀ words v = v
+μ-loop file n words₀ size v₀ words v = v
+
+record-length-requires : tie.Need-record-length-requires Inv-loop μ-loop
+record-length-requires c κs = room-header (c .before .before .pre)
 
 clear-requires : tie.Need-clear-requires Inv-loop μ-loop
-clear-requires c κs = c .before .before .before .pre .room
+clear-requires c κs = c .before .before .before .before .pre .room
 
 sub-v : tie.Need-sub-v Inv-loop μ-loop
-sub-v c = omega (arith, room-some (c .before .before .before .before .before .before .pre))
+sub-v c = omega (arith, room-some (c .before .before .before .before .before .before .before .pre))
 
 loop-holds : tie.Need-loop-holds Inv-loop μ-loop
 loop-holds c =
     let cleared = c .before .before in
-    let st = cleared .before .before .before .before in
+    let st = cleared .before .before .before .before .before in
     let room = room-kept (st .pre) (cleared .clear .ensures .1 .front) in
     (omega (arith, room-some (st .pre)), room, linked-last _ room (cleared .clear .ensures .0), links-only-none _ _)
 
 link-node-requires : tie.Need-link-node-requires Inv-loop μ-loop
-link-node-requires c κs = let l = c .before .before .loop in (record { nodes = l .inv .1; site = omega arith; below = l .inv .0 }, l .inv .2)
+link-node-requires c κs =
+    let l = c .before .before .loop in
+    let sized = c .before .before .before .before .before .before .before in
+    (sized .record-length .ensures, (record { nodes = l .inv .1; site = omega arith; below = l .inv .0 }, l .inv .2))
 
 sub-v-2 : tie.Need-sub-v-2 Inv-loop μ-loop
 sub-v-2 c = omega arith
@@ -60,6 +66,7 @@ link-spec =
     (tie.spec
     Inv-loop
     μ-loop
+    record-length-requires
     clear-requires
     sub-v
     loop-holds

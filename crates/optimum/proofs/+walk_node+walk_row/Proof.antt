@@ -10,10 +10,13 @@ use Rattle.model.specs.File.{treeOf}
 use Rattle.best_rows.specs.Guarded.{mayBe}
 use Rattle.best_rows.specs.TreeRows.{firstChild, rowAt}
 use Rattle.best_rows.specs.Rows.{rowSize}
+use Rattle.fields.proofs.record_length.Reads as record-length-reads
+use Rattle.tree_file.proofs.Accepted.{accepted-long}
 use Rattle.node_words.proofs.child_of.Reads as child-of-reads
+use Rattle.node_words.proofs.depth_word.Reads as depth-word-reads
 use Rattle.node_words.proofs.sibling_of.Reads as sibling-of-reads
 use Rattle.optimum.specs.Walk.{Walked}
-use Rattle.optimum.proofs.Walk.{node-stands, node-small, child-row, member-some, member-row, member-stores, other-row, other-stores, walk-begins, walk-ends, walked-row, walked-stands, children-smaller, siblings-smaller, walked-node, walk-turns, walk-passes}
+use Rattle.optimum.proofs.Walk.{serving-stands, node-stands, node-small, child-row, member-some, member-row, member-stores, other-row, other-stores, walk-begins, walk-ends, walked-row, walked-stands, children-smaller, siblings-smaller, walked-node, walk-turns, walk-passes}
 use Rattle.optimum.proofs.+walk_node+walk_row.{statement}
 use Rattle.optimum.proofs.+walk_node+walk_row.Tie.{close}
 use Rattle.optimum.proofs.walk_node.Reads as walk-node
@@ -50,6 +53,10 @@ walk-node-claims t = (child-of-reads.Asked, child-of-reads.Learnt, walk-row-belo
 
 abbrev walk-row-claims : ℕ → walk-row-lts.Claims
 walk-row-claims t = (
+  record-length-reads.Asked,
+  record-length-reads.Learnt,
+  depth-word-reads.Asked,
+  depth-word-reads.Learnt,
   split-of-reads.Asked,
   split-of-reads.Learnt,
   walk-node-below t,
@@ -107,23 +114,29 @@ walk-node-returns-2 t c = (
 )
 
 abbrev walk-row-Inv-loop : walk-row-lts.InvT-loop
-walk-row-Inv-loop file tree s rows₀ first serving count start x₀ m₀ at₀ rows x m at = Walked file (mayBe (treeOf file)) tree s serving first count start rows₀ x m at rows
+walk-row-Inv-loop file tree s rows₀ first serving count start size above x₀ m₀ at₀ rows x m at = Walked file (mayBe (treeOf file)) tree s serving first count start rows₀ x m at rows
 
 abbrev walk-row-μ-loop : walk-row-lts.MeasureT-loop
-walk-row-μ-loop file tree s rows₀ first serving count start x₀ m₀ at₀ rows x m at = rowSize (rowAt (treeOf file) x)
+walk-row-μ-loop file tree s rows₀ first serving count start size above x₀ m₀ at₀ rows x m at = rowSize (rowAt (treeOf file) x)
+
+walk-row-record-length-requires : (t : ℕ) → walk-row-lts.Need-record-length-requires (walk-row-claims t) (walk-row-at t) walk-row.Post walk-row-Inv-loop walk-row-μ-loop
+walk-row-record-length-requires t c κs = accepted-long _ (c .before .before .before .pre .1 .table .stored .room .accepted)
+
+walk-row-depth-word-requires : (t : ℕ) → walk-row-lts.Need-depth-word-requires (walk-row-claims t) (walk-row-at t) walk-row.Post walk-row-Inv-loop walk-row-μ-loop
+walk-row-depth-word-requires t c κs = serving-stands (c .before .before .before .before .pre .1)
 
 walk-row-loop-holds : (t : ℕ) → walk-row-lts.Need-loop-holds (walk-row-claims t) (walk-row-at t) walk-row.Post walk-row-Inv-loop walk-row-μ-loop
-walk-row-loop-holds t c = walk-begins (c .before .before .before .pre .1)
+walk-row-loop-holds t c = walk-begins (c .before .before .before .before .before .pre .1)
 
 walk-row-split-of-requires : (t : ℕ) → walk-row-lts.Need-split-of-requires (walk-row-claims t) (walk-row-at t) walk-row.Post walk-row-Inv-loop walk-row-μ-loop
-walk-row-split-of-requires t c κs = walked-row (c .before .loop .inv) (c .loop-test .taken)
+walk-row-split-of-requires t c κs = (walked-row (c .before .loop .inv) (c .loop-test .taken), (c .before .before .before .record-length .ensures, c .before .before .depth-word .ensures))
 
 walk-row-sub-walk-node : (t : ℕ) → walk-row-lts.Need-sub-walk-node (walk-row-claims t) (walk-row-at t) walk-row.Post walk-row-Inv-loop walk-row-μ-loop
 walk-row-sub-walk-node t c = omega arith
 
 walk-row-walk-node-requires : (t : ℕ) → walk-row-lts.Need-walk-node-requires (walk-row-claims t) (walk-row-at t) walk-row.Post walk-row-Inv-loop walk-row-μ-loop
 walk-row-walk-node-requires t c κs = (
-  omega (arith, c .before .before .before .before .before .before .before .before .pre .0, children-smaller (c .before .before .before .before .loop .inv) (c .before .before .before .loop-test .taken)),
+  omega (arith, c .before .before .before .before .before .before .before .before .before .before .pre .0, children-smaller (c .before .before .before .before .loop .inv) (c .before .before .before .loop-test .taken)),
   walked-node (c .before .before .before .before .loop .inv) (c .before .before .before .loop-test .taken) (c .before .before .split-of .ensures .0) (c .before .before .split-of .ensures .1),
 )
 
@@ -169,6 +182,8 @@ pub +walk-node+walk-row-spec : {M : Type 1} → statement M
     walk-row.Post
     walk-row-Inv-loop
     walk-row-μ-loop
+    (walk-row-record-length-requires t)
+    (walk-row-depth-word-requires t)
     (walk-row-loop-holds t)
     (walk-row-split-of-requires t)
     (walk-row-sub-walk-node t)

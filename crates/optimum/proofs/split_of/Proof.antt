@@ -7,31 +7,27 @@ use Rattle.model.specs.File.{treeOf, demandOf}
 use Rattle.best_rows.specs.Guarded.{mayBe}
 use Rattle.best_rows.specs.BestAt.{payAt, childrenAt, siblingsAt}
 use Rattle.lines.specs.Line.{LinesHoldBest}
+use Rattle.node_words.proofs.Words.{room-record}
 use Rattle.table.specs.Table.{width, Served}
 use Rattle.table.proofs.Lines.{pays-itself, pays-above}
 use Rattle.table.proofs.Reading.{served-room, children-place, own-place, siblings-place, served-itself, served-above-it, lines-hold-best}
-use Rattle.optimum.proofs.Splits.{serving-stands, split-served, split-parts, split-bound, split-later, split-fits, split-node-parts, split-member}
+use Rattle.optimum.proofs.Splits.{split-served, split-parts, split-bound, split-later, split-fits, split-node-parts, split-member}
 use Rattle.optimum.proofs.split_of.Statement.{statement}
 use Rattle.optimum.proofs.split_of.Tie as tie
 
--- the start, seen from where the serving node's depth was read; that place, seen from where the three lines were read; and that
--- place, seen from where both prices were worked out
-abbrev start : tie.After-depth-word → tie.Start
-start c = c .before .before .before
-
-abbrev depth-read : tie.After-line3 → tie.After-depth-word
-depth-read c = c .before .before .before .before .before .before
+-- the start, seen from where the three lines were read; and that place, seen from where both prices were worked out
+abbrev start : tie.After-line3 → tie.Start
+start c = c .before .before .before .before .before .before .before .before
 
 abbrev lines-read : tie.After-pays2 → tie.After-line3
-lines-read c = c .before .before
+lines-read c = c .before .before .before
 
 -- x with its serving node above it
-served : (c : tie.After-depth-word) → let a = start c .args in
-    Served (treeOf (a .file .now)) (a .x) (c .depth-word .result) (a .serving)
-served c = split-served (start c .pre) (c .depth-word .ensures)
+served : (st : tie.Start) → Served (treeOf (st .args .file .now)) (st .args .x) (st .args .above) (st .args .serving)
+served st = split-served (st .pre .0) (st .pre .1 .1)
 
 -- the three lines read are those of the children, with x as a cache and without, and of the later siblings
-held : (c : tie.After-line3) → let a = start (depth-read c) .args in
+held : (c : tie.After-line3) → let a = start c .args in
     let t = treeOf (a .file .now) in
     let d = demandOf (a .file .now) in
     LinesHoldBest (width (a .tree)) (childrenAt t d (mayBe t) (a .x) (a .serving)) (siblingsAt t d (mayBe t) (a .x) (a .serving)) (c .before .before .before .line .result .now) (c .before .before .line2 .result .now) (c .line3 .result .now)
@@ -41,46 +37,62 @@ held c =
     let cached = uncached .before in
     let deep = cached .before in
     let first = deep .before in
-    lines-hold-best (start (depth-read c) .pre .table) (served (depth-read c)) (omega arith) (first .child-of .ensures) (next .sibling-of .ensures) (deep .depth-word2 .ensures)
+    let st = start c in
+    lines-hold-best (st .pre .0 .table) (served st) (omega arith) (first .child-of .ensures) (next .sibling-of .ensures) (deep .depth-word .ensures)
     (cached .line .ensures) (uncached .line2 .ensures) (c .line3 .ensures)
 
 -- what x pays as a cache, and as none
-pays-own : (c : tie.After-pays2) → let a = start (depth-read (lines-read c)) .args in
+pays-own : (c : tie.After-pays2) → let a = start (lines-read c) .args in
     let t = treeOf (a .file .now) in
     c .before .pays .result .0 ≡ payAt t (demandOf (a .file .now)) (mayBe t) (a .x) (a .serving) true
-pays-own c = pays-itself _ _ _ (start (depth-read (lines-read c)) .args .serving) (c .before .pays .ensures)
+pays-own c = pays-itself _ _ _ (start (lines-read c) .args .serving) (c .before .pays .ensures)
 
-pays-other : (c : tie.After-pays2) → let a = start (depth-read (lines-read c)) .args in
+pays-other : (c : tie.After-pays2) → let a = start (lines-read c) .args in
     let t = treeOf (a .file .now) in
     c .pays2 .result .0 ≡ payAt t (demandOf (a .file .now)) (mayBe t) (a .x) (a .serving) false
 pays-other c = pays-above _ _ _ _ (c .pays2 .ensures)
 
-depth-word-requires : tie.Need-depth-word-requires
-depth-word-requires c κs = serving-stands (c .before .before .pre)
-
 child-of-requires : tie.Need-child-of-requires
-child-of-requires c κs = served-room (start c .pre .table) (served c)
+child-of-requires c κs = let st = c .before .before in served-room (st .pre .0 .table) (served st)
 
-depth-word-requires-2 : tie.Need-depth-word-requires-2
-depth-word-requires-2 c κs = let d = c .before in served-room (start d .pre .table) (served d)
+depth-word-requires : tie.Need-depth-word-requires
+depth-word-requires c κs = let st = c .before .before .before in served-room (st .pre .0 .table) (served st)
 
 line-requires : tie.Need-line-requires
-line-requires c κs = let d = c .before .before in own-place (start d .pre .table) (served d) (c .before .child-of .ensures) (c .depth-word2 .ensures)
+line-requires c κs =
+    let first = c .before in
+    let st = first .before .before .before in
+    own-place (st .pre .0 .table) (served st) (first .child-of .ensures) (c .depth-word .ensures)
 
 line-requires-2 : tie.Need-line-requires-2
-line-requires-2 c κs = let d = c .before .before .before in children-place (start d .pre .table) (served d) (c .before .before .child-of .ensures)
+line-requires-2 c κs =
+    let first = c .before .before in
+    let st = first .before .before .before in
+    children-place (st .pre .0 .table) (served st) (first .child-of .ensures)
 
 sibling-of-requires : tie.Need-sibling-of-requires
-sibling-of-requires c κs = let d = c .before .before .before .before in served-room (start d .pre .table) (served d)
+sibling-of-requires c κs = let st = c .before .before .before .before .before .before in served-room (st .pre .0 .table) (served st)
 
 line-requires-3 : tie.Need-line-requires-3
-line-requires-3 c κs = let d = c .before .before .before .before .before in siblings-place (start d .pre .table) (served d) (c .sibling-of .ensures)
+line-requires-3 c κs =
+    let st = c .before .before .before .before .before .before .before in
+    siblings-place (st .pre .0 .table) (served st) (c .sibling-of .ensures)
+
+cachable-in-requires : tie.Need-cachable-in-requires
+cachable-in-requires c κs =
+    let st = start c in
+    let client = served-itself (st .pre .0 .table) (served st) in
+    (st .pre .1 .0, room-record (client .nodes) (client .node))
 
 pays-requires : tie.Need-pays-requires
-pays-requires c κs = let d = depth-read c in served-itself (start d .pre .table) (served d)
+pays-requires c κs =
+    let st = start (c .before) in
+    (served-itself (st .pre .0 .table) (served st), (st .pre .1 .0, c .cachable-in .ensures))
 
 pays-requires-2 : tie.Need-pays-requires-2
-pays-requires-2 c κs = let d = depth-read (c .before) in served-above-it (start d .pre .table) (served d)
+pays-requires-2 c κs =
+    let st = start (c .before .before) in
+    (served-above-it (st .pre .0 .table) (served st), (st .pre .1 .0, c .before .cachable-in .ensures))
 
 most-below-requires : tie.Need-most-below-requires
 most-below-requires c κs = search needs
@@ -89,45 +101,45 @@ later-requires : tie.Need-later-requires
 later-requires c κs =
     let p = c .before in
     let l = lines-read p in
-    let d = depth-read l in (
-      split-parts (start d .pre) (served d) (held l) (pays-own p) (pays-other p),
-      split-bound (start d .pre) (served d) (held l) (pays-own p) (pays-other p) (l .before .sibling-of .ensures) (c .most-below .ensures),
+    let st = start l in (
+      split-parts (st .pre .0) (served st) (held l) (pays-own p) (pays-other p),
+      split-bound (st .pre .0) (served st) (held l) (pays-own p) (pays-other p) (l .before .sibling-of .ensures) (c .most-below .ensures),
     )
 
 sub-takes : tie.Need-sub-takes
 sub-takes c =
     let p = c .before .before in
     let l = lines-read p in
-    let d = depth-read l in
-    split-fits (start d .pre) (served d) (held l) (pays-own p) (pays-other p) (c .later .ensures)
+    let st = start l in
+    split-fits (st .pre .0) (served st) (held l) (pays-own p) (pays-other p) (c .later .ensures)
 
 takes-requires : tie.Need-takes-requires
 takes-requires c κs =
     let p = c .before .before in
     let l = lines-read p in
-    let d = depth-read l in
-    split-node-parts (start d .pre) (served d) (held l) (pays-own p) (pays-other p) (c .later .ensures)
+    let st = start l in
+    split-node-parts (st .pre .0) (served st) (held l) (pays-own p) (pays-other p) (c .later .ensures)
 
 returns : tie.Need-returns
 returns c =
     let p = c .before .before .before in
     let l = lines-read p in
-    let d = depth-read l in (
-      split-later (start d .pre) (served d) (held l) (pays-own p) (pays-other p) (c .before .later .ensures),
-      split-member (start d .pre) (served d) (held l) (pays-own p) (pays-other p) (c .before .later .ensures) (c .takes .ensures),
+    let st = start l in (
+      split-later (st .pre .0) (served st) (held l) (pays-own p) (pays-other p) (c .before .later .ensures),
+      split-member (st .pre .0) (served st) (held l) (pays-own p) (pays-other p) (c .before .later .ensures) (c .takes .ensures),
     )
 
 pub split-of-spec : {M : Type 1} → statement M
 split-of-spec =
     tie.close
     (tie.spec
-    depth-word-requires
     child-of-requires
-    depth-word-requires-2
+    depth-word-requires
     line-requires
     line-requires-2
     sibling-of-requires
     line-requires-3
+    cachable-in-requires
     pays-requires
     pays-requires-2
     most-below-requires

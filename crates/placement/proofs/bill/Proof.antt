@@ -1,4 +1,4 @@
--- `bill`: the bill of a set: rules 1 to 11, 12 and 14, then its total, with the serving node and the load above each node ..
+-- `bill`: the bill of a set: the rules about the file, 12 and 14, then its total, with the serving node and the load above each node ..
 use mathlib.Core.Path.{sym}
 use borrow.Author.Needs.{needs}
 use Rattle.laws.proofs.Bools.{held, failed}

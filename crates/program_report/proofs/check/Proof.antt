@@ -1,4 +1,4 @@
--- `check`: the first look, rules 1 to 11, and the limits of rule 15.
+-- `check`: the first look, the rules about the file, and the limits of rule 15.
 use borrow.Author.Needs.{needs}
 use mathlib.Core.Path.{sym, ap, _∙_}
 use Rattle.laws.proofs.Bools.{held, failed}

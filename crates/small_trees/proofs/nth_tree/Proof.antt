@@ -22,6 +22,9 @@ after-requires-2 c κs = search needs
 style-by-requires : tie.Need-style-by-requires Inv-loop μ-loop
 style-by-requires c κs = search needs
 
+version-by-requires : tie.Need-version-by-requires Inv-loop μ-loop
+version-by-requires c κs = search needs
+
 mul-bare-tree : tie.Need-mul-bare-tree Inv-loop μ-loop
 mul-bare-tree c = search needs
 
@@ -62,6 +65,7 @@ nth-tree-spec =
     after-requires
     after-requires-2
     style-by-requires
+    version-by-requires
     mul-bare-tree
     array-read-bare-tree
     bare-tree-requires

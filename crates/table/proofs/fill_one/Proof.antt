@@ -12,6 +12,7 @@ use Rattle.best_rows.specs.Guarded.{mayBe}
 use Rattle.best_rows.specs.BestAt.{childrenAt, siblingsAt}
 use Rattle.lines.specs.Line.{mostWidth, LineParts, RowBounds, LinesHoldBest}
 use Rattle.lines.proofs.Row.{row-parts, row-is-line}
+use Rattle.node_words.proofs.Words.{room-record}
 use Rattle.table.specs.Table.{width}
 use Rattle.table.proofs.Lines.{pays-itself, pays-above, line-read, line-put, parts-read}
 use Rattle.table.proofs.Room.{room-sound}
@@ -24,7 +25,7 @@ abbrev start : tie.After-line3 → tie.Start
 start c = c .before .before .before .before .before .before .before .before .before .before
 
 abbrev read : tie.After-width → tie.After-line3
-read c = c .before .before .before .before .before
+read c = c .before .before .before .before .before .before
 
 -- the three lines read are those of the children, with v as a cache and without, and of the later siblings
 held : (c : tie.After-line3) → let a = start c .args in
@@ -38,12 +39,12 @@ held c =
     let next = deep .before in
     let first = next .before in
     let st = start c in
-    lines-hold-best (st .pre .0) (st .pre .1 .1) (next-before (st .pre .0) (st .pre .1 .1)) (first .child-of .ensures) (next .sibling-of .ensures) (deep .depth-word .ensures)
+    lines-hold-best (st .pre .0) (st .pre .1 .1 .0) (next-before (st .pre .0) (st .pre .1 .1 .0)) (first .child-of .ensures) (next .sibling-of .ensures) (deep .depth-word .ensures)
     (cached .line .ensures) (uncached .line2 .ensures) (c .line3 .ensures)
 
 -- so the line can be made from them
 wide : (c : tie.After-width) → c .width .result ≤ mostWidth
-wide c = let st = start (read c) in omega (arith, c .width .ensures, served-width (st .pre .0) (st .pre .1 .1))
+wide c = let st = start (read c) in omega (arith, c .width .ensures, served-width (st .pre .0) (st .pre .1 .1 .0))
 
 parts : (c : tie.After-width) → let rest = read c in
     LineParts (c .width .result) (rest .before .before .line .result .now) (rest .before .line2 .result .now) (rest .line3 .result .now) (c .before .before .before .before .pays .result .0) (c .before .before .before .pays2 .result .0)
@@ -51,7 +52,7 @@ parts c =
     let other = c .before .before .before in
     let member = other .before in
     let st = start (read c) in
-    parts-read _ _ _ _ (room-sound (st .pre .0 .stored .room)) (st .pre .1 .1) (held (read c)) (c .width .ensures) (pays-itself _ _ _ (st .args .u) (member .pays .ensures)) (pays-above _ _ _ _ (other .pays2 .ensures))
+    parts-read _ _ _ _ (room-sound (st .pre .0 .stored .room)) (st .pre .1 .1 .0) (held (read c)) (c .width .ensures) (pays-itself _ _ _ (st .args .u) (member .pays .ensures)) (pays-above _ _ _ _ (other .pays2 .ensures))
 
 bounds : (c : tie.After-width) → let rest = read c in
     let counts = start (read c) .args .counts .now in
@@ -59,76 +60,82 @@ bounds : (c : tie.After-width) → let rest = read c in
 bounds c =
     let next = read c .before .before .before .before in
     let st = start (read c) in
-    lines-bounded (st .pre .0) (st .pre .1 .1) (held (read c)) (st .pre .1 .0) (next .before .child-of .ensures) (next .sibling-of .ensures) (c .width .ensures)
+    lines-bounded (st .pre .0) (st .pre .1 .1 .0) (held (read c)) (st .pre .1 .0) (next .before .child-of .ensures) (next .sibling-of .ensures) (c .width .ensures)
 
 -- and it fits where it is to stand
 fits : (c : tie.After-line-at) → c .line-at .result + c .before .before .before .before .before .before .before .width .result ≤ length (start (read (c .before .before .before .before .before .before .before)) .args .s .now)
 fits c =
     let w = c .before .before .before .before .before .before .before in
     let st = start (read w) in
-    served-fits (st .pre .0) (st .pre .1 .1) (c .line-at .ensures) (w .width .ensures)
+    served-fits (st .pre .0) (st .pre .1 .1 .0) (c .line-at .ensures) (w .width .ensures)
 
 child-of-requires : tie.Need-child-of-requires
-child-of-requires c κs = let st = c .before .before .before .before in served-room (st .pre .0) (st .pre .1 .1)
+child-of-requires c κs = let st = c .before .before .before .before in served-room (st .pre .0) (st .pre .1 .1 .0)
 
 sibling-of-requires : tie.Need-sibling-of-requires
-sibling-of-requires c κs = let st = c .before .before .before .before .before in served-room (st .pre .0) (st .pre .1 .1)
+sibling-of-requires c κs = let st = c .before .before .before .before .before in served-room (st .pre .0) (st .pre .1 .1 .0)
 
 depth-word-requires : tie.Need-depth-word-requires
-depth-word-requires c κs = let st = c .before .before .before .before .before .before in served-room (st .pre .0) (st .pre .1 .1)
+depth-word-requires c κs = let st = c .before .before .before .before .before .before in served-room (st .pre .0) (st .pre .1 .1 .0)
 
 line-requires : tie.Need-line-requires
 line-requires c κs =
     let first = c .before .before in
     let st = first .before .before .before .before .before in
-    own-place (st .pre .0) (st .pre .1 .1) (first .child-of .ensures) (c .depth-word .ensures)
+    own-place (st .pre .0) (st .pre .1 .1 .0) (first .child-of .ensures) (c .depth-word .ensures)
 
 line-requires-2 : tie.Need-line-requires-2
 line-requires-2 c κs =
     let first = c .before .before .before in
     let st = first .before .before .before .before .before in
-    children-place (st .pre .0) (st .pre .1 .1) (first .child-of .ensures)
+    children-place (st .pre .0) (st .pre .1 .1 .0) (first .child-of .ensures)
 
 line-requires-3 : tie.Need-line-requires-3
 line-requires-3 c κs =
     let next = c .before .before .before in
     let st = next .before .before .before .before .before .before in
-    siblings-place (st .pre .0) (st .pre .1 .1) (next .sibling-of .ensures)
+    siblings-place (st .pre .0) (st .pre .1 .1 .0) (next .sibling-of .ensures)
+
+cachable-in-requires : tie.Need-cachable-in-requires
+cachable-in-requires c κs =
+    let st = start c in
+    let client = served-itself (st .pre .0) (st .pre .1 .1 .0) in
+    (st .pre .1 .1 .1, room-record (client .nodes) (client .node))
 
 pays-requires : tie.Need-pays-requires
-pays-requires c κs = let st = start c in served-itself (st .pre .0) (st .pre .1 .1)
+pays-requires c κs = let st = start (c .before) in (served-itself (st .pre .0) (st .pre .1 .1 .0), (st .pre .1 .1 .1, c .cachable-in .ensures))
 
 pays-requires-2 : tie.Need-pays-requires-2
-pays-requires-2 c κs = let st = start (c .before) in served-above-it (st .pre .0) (st .pre .1 .1)
+pays-requires-2 c κs = let st = start (c .before .before) in (served-above-it (st .pre .0) (st .pre .1 .1 .0), (st .pre .1 .1 .1, c .before .cachable-in .ensures))
 
 mul-below : tie.Need-mul-below
 mul-below c =
-    let first = c .before .before .before .before .before .before .before in
+    let first = c .before .before .before .before .before .before .before .before in
     let st = first .before .before .before .before .before in
-    let place = children-place (st .pre .0) (st .pre .1 .1) (first .child-of .ensures) .0 in
+    let place = children-place (st .pre .0) (st .pre .1 .1 .0) (first .child-of .ensures) .0 in
     omega (arith, place .node, place .nodes)
 
 shared-slice-read-below : tie.Need-shared-slice-read-below
 shared-slice-read-below c =
-    let first = c .before .before .before .before .before .before .before .before in
+    let first = c .before .before .before .before .before .before .before .before .before in
     let st = first .before .before .before .before .before in
-    row-counted (st .pre .0) (st .pre .1 .0) (children-place (st .pre .0) (st .pre .1 .1) (first .child-of .ensures) .0 .node)
+    row-counted (st .pre .0) (st .pre .1 .0) (children-place (st .pre .0) (st .pre .1 .1 .0) (first .child-of .ensures) .0 .node)
 
 mul-after : tie.Need-mul-after
 mul-after c =
-    let next = c .before .before .before .before .before .before .before in
+    let next = c .before .before .before .before .before .before .before .before in
     let st = next .before .before .before .before .before .before in
-    let place = siblings-place (st .pre .0) (st .pre .1 .1) (next .sibling-of .ensures) .0 in
+    let place = siblings-place (st .pre .0) (st .pre .1 .1 .0) (next .sibling-of .ensures) .0 in
     omega (arith, place .node, place .nodes)
 
 shared-slice-read-after : tie.Need-shared-slice-read-after
 shared-slice-read-after c =
-    let next = c .before .before .before .before .before .before .before .before in
+    let next = c .before .before .before .before .before .before .before .before .before in
     let st = next .before .before .before .before .before .before in
-    row-counted (st .pre .0) (st .pre .1 .0) (siblings-place (st .pre .0) (st .pre .1 .1) (next .sibling-of .ensures) .0 .node)
+    row-counted (st .pre .0) (st .pre .1 .0) (siblings-place (st .pre .0) (st .pre .1 .1 .0) (next .sibling-of .ensures) .0 .node)
 
 width-requires : tie.Need-width-requires
-width-requires c κs = let st = start (c .before .before .before .before) in served-width (st .pre .0) (st .pre .1 .1)
+width-requires c κs = let st = start (c .before .before .before .before .before) in served-width (st .pre .0) (st .pre .1 .1 .0)
 
 slice-aggregate-own-line : tie.Need-slice-aggregate-own-line
 slice-aggregate-own-line c = search needs
@@ -143,13 +150,13 @@ copy-requires : tie.Need-copy-requires
 copy-requires c κs = let w = c .before .before .before .before in (wide w, parts w .rest-line .long)
 
 line-at-requires : tie.Need-line-at-requires
-line-at-requires c κs = let st = start (read (c .before .before .before .before .before .before)) in served-place (st .pre .0) (st .pre .1 .1)
+line-at-requires c κs = let st = start (read (c .before .before .before .before .before .before)) in served-place (st .pre .0) (st .pre .1 .1 .0)
 
 add-row-line : tie.Need-add-row-line
-add-row-line c = omega (arith, fits c, start (read (c .before .before .before .before .before .before .before)) .good .1 .1 .0)
+add-row-line c = omega (arith, fits c, start (read (c .before .before .before .before .before .before .before)) .good .1 .1 .1 .0)
 
 mul-row-line : tie.Need-mul-row-line
-mul-row-line c = omega (arith, fits c, start (read (c .before .before .before .before .before .before .before)) .good .1 .1 .0)
+mul-row-line c = omega (arith, fits c, start (read (c .before .before .before .before .before .before .before)) .good .1 .1 .1 .0)
 
 sub-row-line : tie.Need-sub-row-line
 sub-row-line c = search needs
@@ -192,7 +199,7 @@ returns c =
     let member = other .before in
     let st = start (read w) in
     let l = made .row-line .ensures ∙ row-is-line (parts w) (bounds w) (wide w) (own .own-line .ensures) (copy .copy .ensures) in
-    let is = line-read _ _ _ _ _ (st .pre .1 .1) (held (read w)) (w .width .ensures) (pays-itself _ _ _ (st .args .u) (member .pays .ensures)) (pays-above _ _ _ _ (other .pays2 .ensures)) l in
+    let is = line-read _ _ _ _ _ (st .pre .1 .1 .0) (held (read w)) (w .width .ensures) (pays-itself _ _ _ (st .args .u) (member .pays .ensures)) (pays-above _ _ _ _ (other .pays2 .ensures)) l in
     line-put _ _ _ _ (st .args .v) (st .args .a) _ _ (st .args .s .now) (fits at) (w .width .ensures) is ∙ rw (at .line-at .ensures)
 
 pub fill-one-spec : {M : Type 1} → statement M
@@ -205,6 +212,7 @@ fill-one-spec =
     line-requires
     line-requires-2
     line-requires-3
+    cachable-in-requires
     pays-requires
     pays-requires-2
     mul-below

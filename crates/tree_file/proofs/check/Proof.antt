@@ -1,4 +1,4 @@
--- `check`: rules 1 to 11, and n, k and h of an accepted file.
+-- `check`: the rules about the file, and n, k and h of an accepted file.
 use mathlib.Core.Path.{sym}
 use borrow.Author.Needs.{needs}
 use Rattle.tree_file.proofs.Accepted.{accepted-long}

@@ -1,4 +1,4 @@
--- `kterc_check`: for a C host: 0, or the number of the first broken rule among 1 to 11.
+-- `kterc_check`: for a C host: 0, or the number of the first broken rule about the file.
 use mathlib.Core.Path.{ap}
 use borrow.Author.Needs.{needs}
 use Rattle.model.specs.Calls.{numberOf, checkNumber}

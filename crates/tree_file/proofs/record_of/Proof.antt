@@ -1,4 +1,4 @@
--- `record_of`: the ten bytes of node v inside the caller's file, empty if the file is refused or v is not below n.
+-- `record_of`: the record of node v inside the caller's file, empty if the file is refused or v is not below n.
 use mathlib.Core.Path.{sym}
 use native.Mathlib.Omega.{arith}
 use borrow.Author.Needs.{needs}
@@ -28,8 +28,8 @@ part-result-end c = search needs
 returns : tie.Need-returns
 returns c = record-beyond _ _ (told (c .before .before .before .enum-told .given .1) (c .before .before .before .before .before .file-ruling .ensures)) (omega (arith, c .before .before .count-of .ensures, c .before .if1 .taken)) (search needs)
 
-record-at-requires : tie.Need-record-at-requires
-record-at-requires c κs = accepted-in-file _ (sym (told (c .before .before .enum-told .given .1) (c .before .before .before .before .file-ruling .ensures))) _ (omega (arith, c .before .count-of .ensures, c .if1 .left))
+record-part-requires : tie.Need-record-part-requires
+record-part-requires c κs = accepted-in-file _ (sym (told (c .before .before .enum-told .given .1) (c .before .before .before .before .file-ruling .ensures))) _ (omega (arith, c .before .count-of .ensures, c .if1 .left))
 
 enum-told-2 : tie.Need-enum-told-2
 enum-told-2 c = search needs
@@ -44,7 +44,7 @@ part-result-end-2 : tie.Need-part-result-end-2
 part-result-end-2 c = search needs
 
 returns-2 : tie.Need-returns-2
-returns-2 c = record-here _ _ (told (c .before .before .before .enum-told .given .1) (c .before .before .before .before .before .file-ruling .ensures)) (omega (arith, c .before .before .count-of .ensures, c .before .if1 .left)) (c .record-at .ensures)
+returns-2 c = record-here _ _ (told (c .before .before .before .enum-told .given .1) (c .before .before .before .before .before .file-ruling .ensures)) (omega (arith, c .before .before .count-of .ensures, c .before .if1 .left)) (c .record-part .ensures)
 
 returns-3 : tie.Need-returns-3
 returns-3 c = record-refused _ _ _ _ (told (c .before .enum-told2 .given .1) (c .before .before .before .file-ruling .ensures)) (search needs)
@@ -60,7 +60,7 @@ record-of-spec =
     part-result-start
     part-result-end
     returns
-    record-at-requires
+    record-part-requires
     enum-told-2
     sub-result-2
     part-result-start-2
