@@ -1,12 +1,20 @@
 -- Laws of products and differences, and of places in rows of equal length.
 use mathlib.Core.Path.{_≡_, ap}
+use mathlib.Core.Logic.{_↔_, _⊎_, inl, inr, ⊎-elim}
 use Prim.Native.Nat.{ℕ, _+_, _*_, _-_, _≤_, _<_}
-use native.Mathlib.Decide.{decLt}
-use native.Mathlib.Nat.{suc-mul, mul-le-mul-right}
+use native.Mathlib.Decide.{ℕ-discrete, decLt}
+use native.Mathlib.Nat.{suc-mul, mul-le-mul-right, eq-of-mul-eq-mul-left}
 use native.Mathlib.Omega.{arith}
 
 pub mul-sub-add : (f a b : ℕ) → b ≤ a → f * (a - b) + f * b ≡ f * a
 mul-sub-add f a b h = let e : a - b + b ≡ a = omega arith in omega (arith, ap (λ x. f * x) e)
+
+-- equal products with one factor in common: it is 0, or the others are equal
+pub products-same : (f a b : ℕ) → f * a ≡ f * b ↔ ((f ≡ 0) ⊎ (a ≡ b))
+products-same f a b = (
+  λ e. elim (ℕ-discrete f 0) [ yes z ↦ inl z | no z ↦ inr (eq-of-mul-eq-mul-left f (omega (arith, z)) a b e) ],
+  ⊎-elim (λ z. rw z (omega arith)) (λ e. ap (λ x. f * x) e),
+)
 
 -- ---- rows of w entries, one after the other
 

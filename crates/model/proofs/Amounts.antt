@@ -3,11 +3,13 @@
 use mathlib.Core.Path.{_≡_, refl, sym, ap, ap₂, _∙_}
 use mathlib.Core.Bool.{true, false, cond}
 use mathlib.Core.List.{List}
+use mathlib.Core.Logic.{_↔_, _⊎_}
 use Prim.Native.Nat.{ℕ, _*_, _-_, _≤_}
 use native.Mathlib.Nat.{mul-comm, mul-assoc, mul-sub, mul-le-mul-right, mul-le-mul-left}
 use native.Mathlib.Omega.{arith}
 use borrow.Author.Tests.{leb-true}
 use Rattle.laws.specs.Lists.{has, anyOf}
+use Rattle.laws.proofs.Numbers.{products-same}
 use Rattle.model.specs.File.{Tree, Share, ratio, bytes, Demand, mostFlow, mostHit, hasRatios, flowField, hitField, cachableField, fieldOf, shareOf, demandOf}
 use Rattle.model.specs.Tree.{route, distance}
 use Rattle.model.specs.Rules.{passed, askShare}
@@ -48,6 +50,23 @@ module _ (d : Demand) (c : ℕ) where
   pub cachable-part : (i : ℕ) → askShare i (d .flow c) (d .share c) ≡ passed → cachable d c ≤ whole d c
   unfolding whole cachable
   cachable-part i h = amount-part i (d .flow c) (d .share c) h
+
+  -- where nothing is cachable, and where everything is
+  pub ratio-nothing : (p : ℕ) → d .share c ≡ ratio p → cachable d c ≡ 0 ↔ ((d .flow c ≡ 0) ⊎ (p ≡ 0))
+  unfolding cachable
+  ratio-nothing p e = let none : d .flow c * 0 ≡ 0 = omega arith in rw e (rw none at (products-same (d .flow c) p 0))
+
+  pub ratio-everything : (p : ℕ) → d .share c ≡ ratio p → cachable d c ≡ whole d c ↔ ((d .flow c ≡ 0) ⊎ (p ≡ 1000))
+  unfolding whole cachable
+  ratio-everything p e = rw e (products-same (d .flow c) p thousandths)
+
+  pub bytes-nothing : (b : ℕ) → d .share c ≡ bytes b → cachable d c ≡ 0 ↔ (b ≡ 0)
+  unfolding cachable
+  bytes-nothing b e = rw e (λ h. omega arith, λ h. omega arith)
+
+  pub bytes-everything : (b : ℕ) → d .share c ≡ bytes b → cachable d c ≡ whole d c ↔ (b ≡ d .flow c)
+  unfolding whole cachable
+  bytes-everything b e = rw e (λ h. omega arith, λ h. omega arith)
 
   -- what is not cachable is the load where a cache serves
   pub relieved-is : relieved d c ≡ servedLoad (d .flow c) (d .share c)

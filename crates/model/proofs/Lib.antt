@@ -26,3 +26,4 @@ pub mod BillLaws
 pub mod CallLaws
 pub mod Laws
 pub mod Versions
+pub mod Situations

@@ -1,4 +1,5 @@
--- The definitions agree with document 01's worked cases that it does not mark, and with those of 02, item 2, on bytes written out.
+-- The definitions agree with document 01's worked cases that it does not mark, and with those of 02, items 2 and 4, on bytes
+-- written out.
 use mathlib.Core.Path.{_≡_, refl}
 use mathlib.Core.List.{List, [], _∷_, flatMap}
 use Prim.Native.Nat.{ℕ, zero, suc, _*_, _<_}
@@ -7,7 +8,7 @@ use Rattle.laws.specs.Lists.{range, sum, least, greatest, has, anyOf, those, ho
 use Rattle.model.specs.File.{number, parentField, lengthField, flowField, hitField, cachableField, hasRatios, recordLength, fieldOf, shareOf, treeOf, demandOf}
 use Rattle.model.specs.Tree.{climb, route, atOrBelow, depth, height, distance}
 use Rattle.model.specs.Rules.{Verdict, parentHolds, lengthHolds, recordVerdict, recordsVerdict, marked, fileVerdict, accepted, ascends, isSet, scratchWords}
-use Rattle.model.specs.Bill.{price, cost, total, upTo, clientLoad, linkLoad, serving}
+use Rattle.model.specs.Bill.{whole, cachable, price, cost, total, upTo, clientLoad, linkLoad, serving}
 use Rattle.model.specs.Ties.{smallerFirst, members, visits, tiesBefore, ranksBefore}
 use Rattle.model.specs.Plan.{setsOf, firstOf, plan}
 use Rattle.model.specs.Greedy.{withNode, withNodes, leastNode, stepOver, takenFrom}
@@ -16,7 +17,8 @@ use Rattle.model.specs.Report.{setOfRow, ReportMemory, reportVerdict, Re
 use Rattle.model.specs.Hosts.{wordsAsked, HostBillMemory, hostBillVerdict, HostBillCall}
 use Rattle.model.specs.Bytes.{bytesOf, headerBytes, recordOf}
 use Rattle.model.specs.Cases.{treeA}
-use Rattle.model.specs.Worked.{fileA, secondA, largest, secondLargest, threeSevenths, tooMuch, tooLong, Worked}
+use Rattle.model.specs.Situations.{firstSituation, costIn, paperCost, situation}
+use Rattle.model.specs.Worked.{fileA, secondA, largest, secondLargest, threeSevenths, tooMuch, eachKind, secondEachKind, tooLong, Worked}
 
 -- ---- what a call's statement settles
 
@@ -59,7 +61,7 @@ of-five P a b c d e (suc (suc (suc (suc zero)))) h = e
 of-five P a b c d e (suc (suc (suc (suc (suc f))))) h = absurd (omega arith)
 
 pub worked : Worked
-unfolding fileA secondA largest secondLargest threeSevenths tooMuch tooLong bytesOf headerBytes recordOf treeA flatMap range sum least greatest has anyOf those howMany firstThat same number hasRatios recordLength fieldOf shareOf climb route atOrBelow depth height distance parentHolds lengthHolds recordVerdict recordsVerdict marked fileVerdict accepted ascends isSet scratchWords price cost total upTo clientLoad linkLoad serving smallerFirst members visits tiesBefore ranksBefore setsOf firstOf plan withNode withNodes leastNode stepOver takenFrom checkNumber recordBytes billVerdict rankVerdict ranking planTotals planRows planVerdict greedyTotals greedyRow greedyVerdict setOfRow reportVerdict digits decimal line reportText refusalText verdictWithin textWithin wordsAsked hostBillVerdict
+unfolding fileA secondA largest secondLargest threeSevenths tooMuch eachKind secondEachKind tooLong bytesOf headerBytes recordOf treeA flatMap range sum least greatest has anyOf those howMany firstThat same number hasRatios recordLength fieldOf shareOf climb route atOrBelow depth height distance parentHolds lengthHolds recordVerdict recordsVerdict marked fileVerdict accepted ascends isSet scratchWords whole cachable price cost total upTo clientLoad linkLoad serving smallerFirst members visits tiesBefore ranksBefore setsOf firstOf plan withNode withNodes leastNode stepOver takenFrom checkNumber recordBytes billVerdict rankVerdict ranking planTotals planRows planVerdict greedyTotals greedyRow greedyVerdict setOfRow reportVerdict digits decimal line reportText refusalText verdictWithin textWithin wordsAsked hostBillVerdict firstSituation costIn paperCost situation
 worked = record {
   files = record {
     offsets = refl;
@@ -165,6 +167,32 @@ worked = record {
       flows = of-five (λ v. fieldOf secondA flowField v ≡ fieldOf fileA flowField v) refl refl refl refl refl;
       cachables = of-five (λ v. 1000 * fieldOf secondA cachableField v ≡ fieldOf fileA flowField v * fieldOf fileA hitField v) refl refl refl refl refl;
     };
+  };
+  situations = record {
+    eachKindPasses = refl;
+    ofNone = refl;
+    ofOne = refl;
+    ofTwo = refl;
+    costsOfNone = refl;
+    costsOfOne = refl;
+    costsOfTwo = refl;
+    secondPasses = refl;
+    secondOfNone = refl;
+    secondOfOne = refl;
+    secondOfTwo = refl;
+    secondCosts = refl;
+    lengthZero = refl;
+    firstNone = refl;
+    firstOfNothing = refl;
+    firstOfNoFlow = refl;
+    firstOfEverything = refl;
+    firstOfPart = refl;
+    firstOfMore = refl;
+    noCacheOf = refl;
+    nothingOf = refl;
+    everythingOf = refl;
+    partlyOf = refl;
+    paperOf = refl;
   };
   calls = record {
     largestTotal = refl;

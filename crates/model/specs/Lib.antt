@@ -16,4 +16,5 @@ pub mod Accepted
 pub mod Children
 pub mod Laws
 pub mod Versions
+pub mod Situations
 pub mod Worked

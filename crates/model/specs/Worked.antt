@@ -1,18 +1,20 @@
--- Document 01's worked cases that it does not mark *, and its numbers from elsewhere, with those of 02, item 2: each on a file
--- written out byte by byte, with the answer that the documents give.
+-- Document 01's worked cases that it does not mark *, and its numbers from elsewhere, with those of 02, items 2 and 4: each on a
+-- file written out byte by byte, with the answer that the documents give.
 use mathlib.Core.Path.{_≡_}
 use mathlib.Core.List.{List, [], _∷_, _++_, map, flatMap}
 use Prim.Native.Nat.{ℕ}
 use lib.ListN.{length, take, drop, replicate}
 use Rattle.laws.specs.Lists.{range}
 use Rattle.model.specs.File.{fieldTable, treeOf, demandOf}
+use Rattle.model.specs.Tree.{nodes}
 use Rattle.model.specs.Rules.{Verdict, passed, broken, fileVerdict, scratchWords}
-use Rattle.model.specs.Bill.{totalLimit, total}
+use Rattle.model.specs.Bill.{totalLimit, cost, total}
 use Rattle.model.specs.Calls.{Answer, answered, refused, after, checkNumber, recordBytes, billVerdict, servingNodes, linkLoads, BillMemory, BillCall, first, second, ranking, winner, planTotals, planRows, PlanMemory, planVerdict, PlanCall, greedyTotals, greedyRow, GreedyMemory, greedyVerdict, GreedyCall}
 use Rattle.model.specs.Report.{setOfRow, ReportMemory, DemandThree, reportVerdict, ReportCall, verdictWithin, textWithin, programVerdict, programText}
 use Rattle.model.specs.Hosts.{codeOf, wordsAsked, HostBillMemory, hostBillVerdict, HostBillCall}
 use Rattle.model.specs.Cases.{treeA}
 use Rattle.model.specs.Versions.{BothVersions}
+use Rattle.model.specs.Situations.{Situation, noCache, nothing, everything, partly, firstSituation, costIn, paperCost, situation}
 
 -- ---- the files
 
@@ -92,6 +94,34 @@ threeSevenths = secondTwoNodes (twelveBytes 0x00 0x00 0x00 0x03 0x00 0x00 0x00 0
 -- length 3, flow 7, cachable 8
 unfoldable pub tooMuch : List ℕ
 tooMuch = secondTwoNodes (twelveBytes 0x00 0x00 0x00 0x03 0x00 0x00 0x00 0x07 0x00 0x00 0x00 0x08)
+
+-- clients of each kind. The server has flow 5; node 1, under it at length 2, has no client; under node 1 at length 1 there are
+-- nodes 2 to 5 with flow 20 and hits 0, 1, 999 and 1,000, and node 6 with flow 0 and hit 1,000; node 7 is under the server at
+-- length 4 with flow 5 and hit 1,000
+unfoldable pub eachKind : List ℕ
+eachKind =
+    header 0x00 0x08 0x00 0x02
+    ++ tenBytes 0x00 0x00 0x00 0x00 0x00 0x00 0x00 0x05 0x03 0xE8
+    ++ tenBytes 0x00 0x00 0x00 0x02 0x00 0x00 0x00 0x00 0x00 0x00
+    ++ tenBytes 0x00 0x01 0x00 0x01 0x00 0x00 0x00 0x14 0x00 0x00
+    ++ tenBytes 0x00 0x01 0x00 0x01 0x00 0x00 0x00 0x14 0x00 0x01
+    ++ tenBytes 0x00 0x01 0x00 0x01 0x00 0x00 0x00 0x14 0x03 0xE7
+    ++ tenBytes 0x00 0x01 0x00 0x01 0x00 0x00 0x00 0x14 0x03 0xE8
+    ++ tenBytes 0x00 0x01 0x00 0x01 0x00 0x00 0x00 0x00 0x03 0xE8
+    ++ tenBytes 0x00 0x00 0x00 0x04 0x00 0x00 0x00 0x05 0x03 0xE8
+
+-- the same tree in version 2: of flow 20 there are 0, 1, 19 and 20 cachable bytes, and all of flow 5
+unfoldable pub secondEachKind : List ℕ
+secondEachKind =
+    secondHeader 0x00 0x08 0x00 0x02
+    ++ twelveBytes 0x00 0x00 0x00 0x00 0x00 0x00 0x00 0x05 0x00 0x00 0x00 0x05
+    ++ twelveBytes 0x00 0x00 0x00 0x02 0x00 0x00 0x00 0x00 0x00 0x00 0x00 0x00
+    ++ twelveBytes 0x00 0x01 0x00 0x01 0x00 0x00 0x00 0x14 0x00 0x00 0x00 0x00
+    ++ twelveBytes 0x00 0x01 0x00 0x01 0x00 0x00 0x00 0x14 0x00 0x00 0x00 0x01
+    ++ twelveBytes 0x00 0x01 0x00 0x01 0x00 0x00 0x00 0x14 0x00 0x00 0x00 0x13
+    ++ twelveBytes 0x00 0x01 0x00 0x01 0x00 0x00 0x00 0x14 0x00 0x00 0x00 0x14
+    ++ twelveBytes 0x00 0x01 0x00 0x01 0x00 0x00 0x00 0x00 0x00 0x00 0x00 0x00
+    ++ twelveBytes 0x00 0x00 0x00 0x04 0x00 0x00 0x00 0x05 0x00 0x00 0x00 0x05
 
 -- length 1,001
 unfoldable pub tooLong : List ℕ
@@ -259,6 +289,48 @@ pub record SecondCases : Type 0 where
   pub longestShort : fileVerdict (secondHeader 0x04 0x00 0x00 0x20 ++ replicate 12287 0x00) ≡ broken 6 0
   -- tree A in both versions: the laws of a file in both have a case
   pub bothVersions : BothVersions fileA secondA
+
+-- ---- 02, item 4: the situation of each node's client, and its cost
+
+abbrev pub situationsOf : List ℕ → List ℕ → List Situation
+situationsOf s k = map (situation (treeOf s) (demandOf s) k) (nodes (treeOf s))
+
+abbrev pub costsOf : List ℕ → List ℕ → List ℕ
+costsOf s k = map (cost (treeOf s) (demandOf s) k) (nodes (treeOf s))
+
+pub record SituationCases : Type 0 where
+  pub eachKindPasses : fileVerdict eachKind ≡ passed
+  -- without a cache; with one at node 1, whose own client has flow 0; with caches at nodes 2 and 5 themselves
+  pub ofNone : situationsOf eachKind [] ≡ replicate 8 noCache
+  pub ofOne : situationsOf eachKind (1 ∷ []) ≡ noCache ∷ nothing ∷ nothing ∷ partly ∷ partly ∷ everything ∷ nothing ∷ noCache ∷ []
+  pub ofTwo : situationsOf eachKind (2 ∷ 5 ∷ [])
+      ≡ noCache ∷ noCache ∷ nothing ∷ noCache ∷ noCache ∷ everything ∷ noCache ∷ noCache ∷ []
+  pub costsOfNone : costsOf eachKind [] ≡ 0 ∷ 0 ∷ 60000 ∷ 60000 ∷ 60000 ∷ 60000 ∷ 0 ∷ 20000 ∷ []
+  pub costsOfOne : costsOf eachKind (1 ∷ []) ≡ 0 ∷ 0 ∷ 60000 ∷ 59960 ∷ 20040 ∷ 20000 ∷ 0 ∷ 20000 ∷ []
+  pub costsOfTwo : costsOf eachKind (2 ∷ 5 ∷ []) ≡ 0 ∷ 0 ∷ 60000 ∷ 60000 ∷ 60000 ∷ 0 ∷ 0 ∷ 20000 ∷ []
+  -- in version 2
+  pub secondPasses : fileVerdict secondEachKind ≡ passed
+  pub secondOfNone : situationsOf secondEachKind [] ≡ replicate 8 noCache
+  pub secondOfOne : situationsOf secondEachKind (1 ∷ [])
+      ≡ noCache ∷ nothing ∷ nothing ∷ partly ∷ partly ∷ everything ∷ nothing ∷ noCache ∷ []
+  pub secondOfTwo : situationsOf secondEachKind (2 ∷ 5 ∷ [])
+      ≡ noCache ∷ noCache ∷ nothing ∷ noCache ∷ noCache ∷ everything ∷ noCache ∷ noCache ∷ []
+  pub secondCosts : costsOf secondEachKind (1 ∷ []) ≡ 0 ∷ 0 ∷ 60000 ∷ 58000 ∷ 22000 ∷ 20000 ∷ 0 ∷ 20000 ∷ []
+  -- a cache on a link of length 0, at no distance from the server, is a cache
+  pub lengthZero : situationsOf (twoNodes (tenBytes 0x00 0x00 0x00 0x00 0x00 0x00 0x00 0x14 0x03 0xE8)) (1 ∷ []) ≡ noCache ∷ everything ∷ []
+  -- the first that holds, of any numbers: all is 7 or 0, the cachable part 0, 3, 7 or 8, the serving node 0 or 2
+  pub firstNone : firstSituation 7 3 0 ≡ noCache
+  pub firstOfNothing : firstSituation 7 0 2 ≡ nothing
+  pub firstOfNoFlow : firstSituation 0 0 2 ≡ nothing
+  pub firstOfEverything : firstSituation 7 7 2 ≡ everything
+  pub firstOfPart : firstSituation 7 3 2 ≡ partly
+  pub firstOfMore : firstSituation 7 8 2 ≡ partly
+  -- what each costs: all is 7, the cachable part 3, the client at distance 5 and its serving node at 2
+  pub noCacheOf : costIn noCache 7 3 5 2 ≡ 35
+  pub nothingOf : costIn nothing 7 3 5 2 ≡ 35
+  pub everythingOf : costIn everything 7 3 5 2 ≡ 21
+  pub partlyOf : costIn partly 7 3 5 2 ≡ 29
+  pub paperOf : paperCost 7 3 3 2 ≡ 29
 
 -- ---- the calls
 
@@ -464,6 +536,7 @@ pub record ProgramCases : Type 0 where
 pub record Worked : Type 0 where
   pub files : FileCases
   pub second : SecondCases
+  pub situations : SituationCases
   pub calls : CallCases
   pub statements : StatementCases
   pub program : ProgramCases

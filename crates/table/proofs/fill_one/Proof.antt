@@ -12,11 +12,10 @@ use Rattle.best_rows.specs.Guarded.{mayBe}
 use Rattle.best_rows.specs.BestAt.{childrenAt, siblingsAt}
 use Rattle.lines.specs.Line.{mostWidth, LineParts, RowBounds, LinesHoldBest}
 use Rattle.lines.proofs.Row.{row-parts, row-is-line}
-use Rattle.node_words.proofs.Words.{room-record}
 use Rattle.table.specs.Table.{width}
 use Rattle.table.proofs.Lines.{pays-itself, pays-above, line-read, line-put, parts-read}
 use Rattle.table.proofs.Room.{room-sound}
-use Rattle.table.proofs.Reading.{served-room, served-place, served-width, served-fits, children-place, own-place, siblings-place, row-counted, served-itself, served-above-it, lines-hold-best, lines-bounded, next-before}
+use Rattle.table.proofs.Reading.{served-room, served-place, served-width, served-fits, children-place, own-place, siblings-place, row-counted, lines-hold-best, lines-bounded, next-before}
 use Rattle.table.proofs.fill_one.Statement.{statement}
 use Rattle.table.proofs.fill_one.Tie as tie
 
@@ -25,7 +24,7 @@ abbrev start : tie.After-line3 → tie.Start
 start c = c .before .before .before .before .before .before .before .before .before .before
 
 abbrev read : tie.After-width → tie.After-line3
-read c = c .before .before .before .before .before .before
+read c = c .before .before .before
 
 -- the three lines read are those of the children, with v as a cache and without, and of the later siblings
 held : (c : tie.After-line3) → let a = start c .args in
@@ -47,12 +46,11 @@ wide : (c : tie.After-width) → c .width .result ≤ mostWidth
 wide c = let st = start (read c) in omega (arith, c .width .ensures, served-width (st .pre .0) (st .pre .1 .1 .0))
 
 parts : (c : tie.After-width) → let rest = read c in
-    LineParts (c .width .result) (rest .before .before .line .result .now) (rest .before .line2 .result .now) (rest .line3 .result .now) (c .before .before .before .before .pays .result .0) (c .before .before .before .pays2 .result .0)
+    let a = start rest .args in
+    LineParts (c .width .result) (rest .before .before .line .result .now) (rest .before .line2 .result .now) (rest .line3 .result .now) (a .member .0) (a .other .0)
 parts c =
-    let other = c .before .before .before in
-    let member = other .before in
     let st = start (read c) in
-    parts-read _ _ _ _ (room-sound (st .pre .0 .stored .room)) (st .pre .1 .1 .0) (held (read c)) (c .width .ensures) (pays-itself _ _ _ (st .args .u) (member .pays .ensures)) (pays-above _ _ _ _ (other .pays2 .ensures))
+    parts-read _ _ _ _ (room-sound (st .pre .0 .stored .room)) (st .pre .1 .1 .0) (held (read c)) (c .width .ensures) (pays-itself _ _ _ (st .args .u) (st .pre .1 .1 .1 .0)) (pays-above _ _ _ _ (st .pre .1 .1 .1 .1))
 
 bounds : (c : tie.After-width) → let rest = read c in
     let counts = start (read c) .args .counts .now in
@@ -96,46 +94,34 @@ line-requires-3 c κs =
     let st = next .before .before .before .before .before .before in
     siblings-place (st .pre .0) (st .pre .1 .1 .0) (next .sibling-of .ensures)
 
-cachable-in-requires : tie.Need-cachable-in-requires
-cachable-in-requires c κs =
-    let st = start c in
-    let client = served-itself (st .pre .0) (st .pre .1 .1 .0) in
-    (st .pre .1 .1 .1, room-record (client .nodes) (client .node))
-
-pays-requires : tie.Need-pays-requires
-pays-requires c κs = let st = start (c .before) in (served-itself (st .pre .0) (st .pre .1 .1 .0), (st .pre .1 .1 .1, c .cachable-in .ensures))
-
-pays-requires-2 : tie.Need-pays-requires-2
-pays-requires-2 c κs = let st = start (c .before .before) in (served-above-it (st .pre .0) (st .pre .1 .1 .0), (st .pre .1 .1 .1, c .before .cachable-in .ensures))
-
 mul-below : tie.Need-mul-below
 mul-below c =
-    let first = c .before .before .before .before .before .before .before .before in
+    let first = c .before .before .before .before .before in
     let st = first .before .before .before .before .before in
     let place = children-place (st .pre .0) (st .pre .1 .1 .0) (first .child-of .ensures) .0 in
     omega (arith, place .node, place .nodes)
 
 shared-slice-read-below : tie.Need-shared-slice-read-below
 shared-slice-read-below c =
-    let first = c .before .before .before .before .before .before .before .before .before in
+    let first = c .before .before .before .before .before .before in
     let st = first .before .before .before .before .before in
     row-counted (st .pre .0) (st .pre .1 .0) (children-place (st .pre .0) (st .pre .1 .1 .0) (first .child-of .ensures) .0 .node)
 
 mul-after : tie.Need-mul-after
 mul-after c =
-    let next = c .before .before .before .before .before .before .before .before in
+    let next = c .before .before .before .before .before in
     let st = next .before .before .before .before .before .before in
     let place = siblings-place (st .pre .0) (st .pre .1 .1 .0) (next .sibling-of .ensures) .0 in
     omega (arith, place .node, place .nodes)
 
 shared-slice-read-after : tie.Need-shared-slice-read-after
 shared-slice-read-after c =
-    let next = c .before .before .before .before .before .before .before .before .before in
+    let next = c .before .before .before .before .before .before in
     let st = next .before .before .before .before .before .before in
     row-counted (st .pre .0) (st .pre .1 .0) (siblings-place (st .pre .0) (st .pre .1 .1 .0) (next .sibling-of .ensures) .0 .node)
 
 width-requires : tie.Need-width-requires
-width-requires c κs = let st = start (c .before .before .before .before .before) in served-width (st .pre .0) (st .pre .1 .1 .0)
+width-requires c κs = let st = start (c .before .before) in served-width (st .pre .0) (st .pre .1 .1 .0)
 
 slice-aggregate-own-line : tie.Need-slice-aggregate-own-line
 slice-aggregate-own-line c = search needs
@@ -153,10 +139,10 @@ line-at-requires : tie.Need-line-at-requires
 line-at-requires c κs = let st = start (read (c .before .before .before .before .before .before)) in served-place (st .pre .0) (st .pre .1 .1 .0)
 
 add-row-line : tie.Need-add-row-line
-add-row-line c = omega (arith, fits c, start (read (c .before .before .before .before .before .before .before)) .good .1 .1 .1 .0)
+add-row-line c = omega (arith, fits c, start (read (c .before .before .before .before .before .before .before)) .good .1 .1 .0)
 
 mul-row-line : tie.Need-mul-row-line
-mul-row-line c = omega (arith, fits c, start (read (c .before .before .before .before .before .before .before)) .good .1 .1 .1 .0)
+mul-row-line c = omega (arith, fits c, start (read (c .before .before .before .before .before .before .before)) .good .1 .1 .0)
 
 sub-row-line : tie.Need-sub-row-line
 sub-row-line c = search needs
@@ -195,11 +181,9 @@ returns c =
     let copy = at .before .before in
     let own = copy .before .before .before in
     let w = own .before .before in
-    let other = w .before .before .before in
-    let member = other .before in
     let st = start (read w) in
     let l = made .row-line .ensures ∙ row-is-line (parts w) (bounds w) (wide w) (own .own-line .ensures) (copy .copy .ensures) in
-    let is = line-read _ _ _ _ _ (st .pre .1 .1 .0) (held (read w)) (w .width .ensures) (pays-itself _ _ _ (st .args .u) (member .pays .ensures)) (pays-above _ _ _ _ (other .pays2 .ensures)) l in
+    let is = line-read _ _ _ _ _ (st .pre .1 .1 .0) (held (read w)) (w .width .ensures) (pays-itself _ _ _ (st .args .u) (st .pre .1 .1 .1 .0)) (pays-above _ _ _ _ (st .pre .1 .1 .1 .1)) l in
     line-put _ _ _ _ (st .args .v) (st .args .a) _ _ (st .args .s .now) (fits at) (w .width .ensures) is ∙ rw (at .line-at .ensures)
 
 pub fill-one-spec : {M : Type 1} → statement M
@@ -212,9 +196,6 @@ fill-one-spec =
     line-requires
     line-requires-2
     line-requires-3
-    cachable-in-requires
-    pays-requires
-    pays-requires-2
     mul-below
     shared-slice-read-below
     mul-after
