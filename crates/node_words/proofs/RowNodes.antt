@@ -5,7 +5,7 @@ use mathlib.Core.Logic.{_⊎_, inl, inr, ⊎-elim}
 use Prim.Native.Nat.{ℕ, _+_, _≤_, _<_}
 use native.Mathlib.Decide.{ℕ-discrete}
 use native.Mathlib.Omega.{arith}
-use lib.ListN.{length, getD, set, replicate, length-set, length-replicate, getD-replicate}
+use lib.ListN.{length, getD, set, length-set}
 use lib.Seq.{getD-set-same, getD-set-other}
 use Rattle.model.specs.File.{Tree, treeOf, mostNodes}
 use Rattle.model.proofs.Accepted.{accepted-header}
@@ -29,12 +29,12 @@ module _ {file : List ℕ} {n : ℕ} {words : List ℕ} (notes : FileWords file 
   pub nodes-few : n ≤ mostNodes
   nodes-few = omega (arith, notes .nodes .count, accepted-header file (notes .nodes .accepted) .few)
 
-  pub counts-begin : RowNodesFrom t n (replicate mostNodes 0)
-  counts-begin = record {
-    long = rw length-replicate (omega (arith, nodes-few, notes .nodes .count));
+  pub counts-begin : (counts : List ℕ) → mostNodes ≤ length counts → RowNodesFrom t n (set counts 0 0)
+  counts-begin counts room = record {
+    long = rw length-set (omega (arith, room, nodes-few, notes .nodes .count));
     size = λ u h first.
         let none : u ≡ 0 = ⊎-elim (λ e. e) (λ l. omega (arith, notes .nodes .count)) first in
-        rw (none, row-size-none t) (getD-replicate mostNodes 0 0 0 (omega arith));
+        rw (none, row-size-none t) (getD-set-same counts 0 0 0 (omega (arith, room)));
   }
 
   module _ {v : ℕ} (site : 0 < v) (below : v < n) where

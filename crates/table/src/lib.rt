@@ -201,6 +201,7 @@ pub fn make_table(file: &[u8], tree: fields::Tree, s: &mut [u64])
     ensures { λ _. ⌜ LinesFilled (now (file .entry)) (mayBe (treeOf (now (file .entry)))) tree 0 (now (s .entry)) (now (s .exit)) ⌝ }
 {
     node_words::note_nodes(file, tree.nodes, s);
-    let counts = node_words::row_nodes(s, tree.nodes);
+    let mut counts = [0usize; fields::Tree::NODES];
+    node_words::row_nodes(s, tree.nodes, &mut counts);
     fill_table(file, tree, s, &counts);
 }
