@@ -16,9 +16,30 @@ use Rattle.laws.proofs.Ranges.{entry-stored}
 use Rattle.best_rows.specs.Least.{runningMin}
 use Rattle.best_rows.specs.Best.{cap, split, rowBest}
 use Rattle.best_rows.proofs.Least.{running-min-is}
-use Rattle.lines.specs.Line.{mostWidth, NoFitFrom, LineParts, RowBounds, ownEnd, restEnd, RowParts, lineNode, lineSplit, lineBest, joinedSplit, joinedBest, Cleared, Lowered}
+use Rattle.lines.specs.Line.{mostWidth, NoFitFrom, LineParts, RowBounds, ownEnd, restEnd, RowParts, lineNode, lineSplit, lineBest, joinedSplit, joinedBest, Begun, Cleared, Lowered}
 use Rattle.lines.proofs.Node.{node-within, node-none}
 use Rattle.lines.proofs.RunningMin.{running-min-within, running-min-same, running-min-leaves-out, running-min-reversed}
+
+-- ---- the entries that are stored one by one from `end` on
+
+module _ (before : List ℕ) (end : ℕ) where
+  pub clear-begins : Cleared before end end before
+  clear-begins = record { kept = λ n h. refl; none = λ n h k. absurd (omega arith) }
+
+  pub clear-next : (n : ℕ) (after : List ℕ) → end ≤ n → n < length after → Cleared before end n after
+      → Cleared before end (n + 1) (set after n cap)
+  clear-next n after from h so-far = record {
+    kept = λ i k. getD-set-other after n i cap 0 (λ e. omega arith) ∙ so-far .kept i k;
+    none =
+        λ i k l.
+        elim (decLt i n) [
+          | yes p ↦ getD-set-other after n i cap 0 (λ e. omega arith) ∙ so-far .none i k p
+          | no p ↦ let last : i ≡ n = omega arith in rw last (getD-set-same after n cap 0 h)
+        ];
+  }
+
+  pub clear-fewer : {after : List ℕ} (w n : ℕ) → w ≤ n → Cleared before end n after → Cleared before end w after
+  clear-fewer w n h so-far = record { kept = so-far .kept; none = λ i k l. so-far .none i k (omega arith) }
 
 -- ---- one pass of the inner loop: line[r + n] becomes other[n] + x where that is smaller
 
@@ -64,11 +85,17 @@ module _ (node rest : List ℕ) (w : ℕ) where
   abbrev pub LeastBefore : ℕ → List ℕ → Type 0
   LeastBefore r line = (m : ℕ) → m < w → getD line m 0 ≡ runningMin cap (joinedSplit node rest m) (min r (m + 1))
 
-  pub row-begins : (line : List ℕ) → Cleared w line → LeastBefore 0 line
+  pub row-begins : (e : ℕ) (line after : List ℕ) {x : ℕ} → NoFitFrom e w node → x ≡ getD rest 0 0 → Begun node e x line
+      → Cleared line e w after → LeastBefore 1 after
   unfolding runningMin
-  row-begins line clear m h =
-      let none : min 0 (m + 1) ≡ 0 = omega arith in
-      rw none (clear m h)
+  row-begins e line after none hx begun cleared m h =
+      let one : min 1 (m + 1) ≡ 1 = omega arith in
+      let all : m - 0 ≡ m = omega arith in
+      rw (one, all)
+      (elim (decLt m e) [
+        | yes l ↦ omega (arith, cleared .kept m l, begun m l)
+        | no l ↦ omega (arith, cleared .none m (omega arith) h, none m (omega arith) h)
+      ])
 
   pub row-turns : (e r end : ℕ) (line after : List ℕ) {x : ℕ} → NoFitFrom e w node → x ≡ getD rest r 0 → end ≡ min e (w - r)
       → LeastBefore r line → Lowered line node end r x after → LeastBefore (r + 1) after
@@ -105,6 +132,7 @@ module _ (node rest : List ℕ) (w : ℕ) where
 
 pub row-parts-swapped : {w a b : ℕ} {node rest : List ℕ} → RowParts w node rest a b → RowParts w rest node b a
 row-parts-swapped p = record {
+  wide = p .wide;
   long = (p .long .1, p .long .0);
   ends = (p .ends .1, p .ends .0);
   none = (p .none .1, p .none .0);
@@ -120,12 +148,12 @@ joined-best-swapped node rest m =
 pub joined-swapped : (node rest : List ℕ) (w : ℕ) → map (joinedBest node rest) (range 0 w) ≡ map (joinedBest rest node) (range 0 w)
 joined-swapped node rest w = same-on-range (joinedBest node rest) (joinedBest rest node) 0 w (λ m _ _. joined-best-swapped node rest m)
 
--- ---- all entries, from a node's line that is stored up to its end and a copy of the later siblings' line
+-- ---- all entries, from a node's line and the later siblings' line, each stored up to its end
 
 module _ {cached uncached rest : List ℕ} {member other w below after : ℕ} (parts : LineParts w cached uncached rest member other)
-    (bounds : RowBounds w cached uncached rest below after) (wide : w ≤ mostWidth) {node copy : List ℕ}
+    (bounds : RowBounds w cached uncached rest below after) (some : 0 < w) (wide : w ≤ mostWidth) {node copy : List ℕ}
     (known : node ≡ sets (replicate mostWidth cap) 0 (map (lineNode cached uncached member other) (range 0 (ownEnd w below))))
-    (copied : copy ≡ sets (replicate mostWidth cap) 0 (take w rest)) where
+    (copied : copy ≡ sets (replicate mostWidth cap) 0 (take (restEnd w after) rest)) where
   abbrev end : ℕ
   end = ownEnd w below
 
@@ -147,14 +175,23 @@ module _ {cached uncached rest : List ℕ} {member other w below after : ℕ} (p
         | no l ↦ omega (arith, entry-none n (omega arith) h)
       ]
 
+  -- where no more caches fit both lines hold the cap
   entry-copied : (n : ℕ) → n < w → getD copy n 0 ≡ getD rest n 0
   entry-copied n h =
-      rw (copied, front-is-entries w rest (parts .rest-line .long))
-      (entry-stored (replicate mostWidth cap) (λ j. getD rest j 0) w n (rw length-replicate wide) h)
+      rw (copied, front-is-entries (restEnd w after) rest (omega (arith, parts .rest-line .long)))
+      (elim (decLt n (restEnd w after)) [
+        | yes l ↦ entry-stored (replicate mostWidth cap) (λ j. getD rest j 0) (restEnd w after) n (rw length-replicate (omega arith)) l
+        | no l ↦
+            entry-after (replicate mostWidth cap) 0 (map (λ j. getD rest j 0) (range 0 (restEnd w after))) n
+            (rw (length-of-range (λ j. getD rest j 0) 0 (restEnd w after)) (omega arith))
+            ∙ getD-replicate mostWidth n cap 0 (omega arith)
+            ∙ omega (arith, bounds .rest-none n (omega arith) h, parts .rest-line .within n h)
+      ])
 
   pub row-parts : RowParts w node copy (ownEnd w below) (restEnd w after)
   unfolding cap
   row-parts = record {
+    wide = some;
     long = (rw (known, length-sets) (rw length-replicate wide), rw (copied, length-sets) (rw length-replicate wide));
     ends = (omega arith, omega arith);
     none = (λ n h k. omega (arith, entry-none n h k), λ n h k. omega (arith, entry-copied n k, bounds .rest-none n (omega arith) k));

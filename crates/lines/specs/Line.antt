@@ -98,6 +98,7 @@ restEnd w after = min w (after + 1)
 -- the lines of the two parts of a row: from `own` caches on they do not fit in the first, from `others` on not in the second; and
 -- every sum of an entry of each is below 2^64
 pub record RowParts (w : ℕ) (node rest : List ℕ) (own others : ℕ) : Type 0 where
+  pub wide : 0 < w
   pub long : (w ≤ length node) × (w ≤ length rest)
   pub ends : (own ≤ w) × (others ≤ w)
   pub none : NoFitFrom own w node × NoFitFrom others w rest
@@ -111,13 +112,18 @@ joinedSplit node rest m r = getD node (m - r) 0 + getD rest r 0
 unfoldable pub joinedBest : List ℕ → List ℕ → ℕ → ℕ
 joinedBest node rest m = runningMin cap (joinedSplit node rest m) (m + 1)
 
--- the entries below w are the cap, as before the first split
-abbrev pub Cleared : ℕ → List ℕ → Type 0
-Cleared w l = (n : ℕ) → n < w → getD l n 0 ≡ cap
-
 -- each of the first `end` entries plus x is below 2^64
 abbrev pub SumsFit : ℕ → List ℕ → ℕ → Type 0
 SumsFit end l x = (n : ℕ) → n < end → getD l n 0 + x < 2 ^ 64
+
+-- for each n < end entry n is other[n] + x, or the cap where that is not smaller
+abbrev pub Begun : List ℕ → ℕ → ℕ → List ℕ → Type 0
+Begun other end x l = (n : ℕ) → n < end → getD l n 0 ≡ min cap (getD other n 0 + x)
+
+-- `after` is `before` below `end`, and from there to w it is the cap
+pub record Cleared (before : List ℕ) (end w : ℕ) (after : List ℕ) : Type 0 where
+  pub kept : (n : ℕ) → n < end → getD after n 0 ≡ getD before n 0
+  pub none : (n : ℕ) → end ≤ n → n < w → getD after n 0 ≡ cap
 
 -- `after` is `before`, but for each n < end entry r + n is other[n] + x where that is smaller
 pub record Lowered (before other : List ℕ) (end r x : ℕ) (after : List ℕ) : Type 0 where

@@ -9,7 +9,7 @@ ghost use lib.ListN.{length, take};
 ghost use lib.Seq.{sets};
 ghost use Rattle.laws.specs.Lists.{range};
 ghost use Rattle.model.specs.File.{mostNodes};
-ghost use Rattle.lines.specs.Line.{NodeParts, LineParts, RowParts, SumsFit, ownEnd, restEnd, lineCostIf, lineTakes, lineNode, lineSplit, lineLater, SplitBound, joinedBest, Cleared, Lowered, emptyBest};
+ghost use Rattle.lines.specs.Line.{NodeParts, LineParts, RowParts, SumsFit, ownEnd, restEnd, lineCostIf, lineTakes, lineNode, lineSplit, lineLater, SplitBound, joinedBest, Begun, Cleared, Lowered, emptyBest};
 use units::Total;
 
 // The most entries that a line has: one for each number of caches from 0 to the largest budget.
@@ -110,6 +110,34 @@ pub fn own_line(
     node_line(line, cached, uncached, member, other, own_end(w, below));
 }
 
+// Copies the first w entries of a line.
+fn copy(to: &mut [u64], line: &[u64], w: usize)
+    requires { ⌜ (w ≤ length (now to)) × (w ≤ length (now line)) ⌝ }
+    ensures { λ _. ⌜ now (to .exit) ≡ sets (now (to .entry)) 0 (take w (now (line .entry))) ⌝ }
+{
+    let mut i = 0;
+    while i < w {
+        to[i] = line[i];
+        i += 1;
+    }
+}
+
+// The first number of caches that does not fit among a node's later siblings, at most w; `after` nodes are in their row.
+fn rest_end(w: usize, after: usize) -> usize
+    requires { ⌜ after < mostNodes ⌝ }
+    ensures { λ r. ⌜ r ≡ restEnd w after ⌝ }
+{
+    lesser(w, after + 1)
+}
+
+// Copies the later siblings' line for the counts that fit.
+pub fn rest_line(line: &mut [u64], rest: &[u64], w: usize, after: usize)
+    requires { ⌜ (w ≤ length (now line)) × (w ≤ length (now rest)) × (after < mostNodes) ⌝ }
+    ensures { λ _. ⌜ now (line .exit) ≡ sets (now (line .entry)) 0 (take (restEnd w after) (now (rest .entry))) ⌝ }
+{
+    copy(line, rest, rest_end(w, after));
+}
+
 // For each n < end: line[r + n] becomes other[n] + cost if that is smaller.
 fn lower(line: &mut [u64], other: &[u64], end: usize, r: usize, cost: Total)
     requires { ⌜ (r + end ≤ length (now line)) × (end ≤ length (now other)) ⌝ }
@@ -127,12 +155,25 @@ fn lower(line: &mut [u64], other: &[u64], end: usize, r: usize, cost: Total)
     }
 }
 
-// Stores "does not fit" in the first w entries of a line.
-fn clear(line: &mut [u64], w: usize)
-    requires { ⌜ w ≤ length (now line) ⌝ }
-    ensures { λ _. ⌜ Cleared w (now (line .exit)) ⌝ }
+// For each n < end: line[n] becomes other[n] + cost, or "does not fit" if that is not smaller. What the line held is not read.
+fn begin(line: &mut [u64], other: &[u64], end: usize, cost: Total)
+    requires { ⌜ (end ≤ length (now line)) × (end ≤ length (now other)) ⌝ }
+    requires { ⌜ SumsFit end (now other) (cost .0) ⌝ }
+    ensures { λ _. ⌜ Begun (now (other .entry)) end (cost .0) (now (line .exit)) ⌝ }
 {
     let mut n = 0;
+    while n < end {
+        line[n] = Total::CAP.lesser(Total(other[n]).plus(cost)).0;
+        n += 1;
+    }
+}
+
+// Stores "does not fit" in the entries from `end` to w.
+fn clear(line: &mut [u64], end: usize, w: usize)
+    requires { ⌜ w ≤ length (now line) ⌝ }
+    ensures { λ _. ⌜ Cleared (now (line .entry)) end w (now (line .exit)) ⌝ }
+{
+    let mut n = end;
     while n < w {
         line[n] = Total::CAP.0;
         n += 1;
@@ -146,8 +187,9 @@ fn joined(line: &mut [u64], first: &[u64], second: &[u64], w: usize, end: usize,
     requires { ⌜ RowParts w (now first) (now second) end stop ⌝ }
     ensures { λ _. ⌜ now (line .exit) ≡ map (joinedBest (now (first .entry)) (now (second .entry))) (range 0 w) ⌝ }
 {
-    clear(line, w);
-    let mut r = 0;
+    begin(line, first, end, Total(second[0]));
+    clear(line, end, w);
+    let mut r = 1;
     while r < stop {
         lower(line, first, lesser(end, w - r), r, Total(second[r]));
         r += 1;
@@ -163,23 +205,11 @@ pub fn row_line(line: &mut [u64], node: &[u64], rest: &[u64], w: usize, below: u
     ensures { λ _. ⌜ now (line .exit) ≡ map (joinedBest (now (node .entry)) (now (rest .entry))) (range 0 w) ⌝ }
 {
     let own = own_end(w, below);
-    let others = lesser(w, after + 1);
+    let others = rest_end(w, after);
     if own < others {
         joined(line, rest, node, w, others, own);
     } else {
         joined(line, node, rest, w, own, others);
-    }
-}
-
-// Copies the first w entries of a line.
-pub fn copy(to: &mut [u64], line: &[u64], w: usize)
-    requires { ⌜ (w ≤ length (now to)) × (w ≤ length (now line)) ⌝ }
-    ensures { λ _. ⌜ now (to .exit) ≡ sets (now (to .entry)) 0 (take w (now (line .entry))) ⌝ }
-{
-    let mut i = 0;
-    while i < w {
-        to[i] = line[i];
-        i += 1;
     }
 }
 

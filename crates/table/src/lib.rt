@@ -141,7 +141,7 @@ fn fill_one(
     let mut node = [Total::CAP.0; lines::WIDTH];
     lines::own_line(&mut node, cached, uncached, member, other, w, below);
     let mut others = [Total::CAP.0; lines::WIDTH];
-    lines::copy(&mut others, rest, w);
+    lines::rest_line(&mut others, rest, w, after);
     let start = line_at(tree, v, a);
     lines::row_line(&mut s[start..start + w], &node, &others, w, below, after);
 }

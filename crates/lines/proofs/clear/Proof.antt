@@ -1,23 +1,23 @@
--- `clear`: stores "does not fit" in the first w entries of a line.
+-- `clear`: stores "does not fit" in the entries from `end` to w.
 use mathlib.Core.Path.{_≡_, refl}
 use Prim.Native.Nat.{_-_, _≤_}
 use native.Mathlib.Omega.{arith}
 use lib.ListN.{length, length-set}
 use borrow.Author.Needs.{needs}
-use Rattle.laws.proofs.FrontValues.{entries-next}
 use Rattle.best_rows.specs.Best.{cap}
 use Rattle.lines.specs.Line.{Cleared}
+use Rattle.lines.proofs.Row.{clear-begins, clear-next, clear-fewer}
 use Rattle.lines.proofs.clear.Statement.{statement}
 use Rattle.lines.proofs.clear.Tie as tie
 
 abbrev Inv-loop : tie.InvT-loop
-Inv-loop line₀ w n₀ line n = (n ≤ w) × (length line ≡ length line₀) × Cleared n line
+Inv-loop line₀ end w n₀ line n = (end ≤ n) × (length line ≡ length line₀) × Cleared line₀ end n line
 
 abbrev μ-loop : tie.MeasureT-loop
-μ-loop line₀ w n₀ line n = w - n
+μ-loop line₀ end w n₀ line n = w - n
 
 loop-holds : tie.Need-loop-holds Inv-loop μ-loop
-loop-holds c = (omega arith, refl, λ n h. absurd (omega arith))
+loop-holds c = (omega arith, refl, clear-begins _ _)
 
 mul-line : tie.Need-mul-line Inv-loop μ-loop
 mul-line c = omega arith
@@ -35,13 +35,13 @@ loop-again : tie.Need-loop-again Inv-loop μ-loop
 unfolding cap
 loop-again c =
     let l = c .before .loop in
-    (omega arith, simp length-set (l .inv .1), entries-next (λ _. cap) (l .line) (l .n) _ (l .inv .2) (omega arith) refl)
+    (omega arith, simp length-set (l .inv .1), clear-next _ _ (l .n) (l .line) (l .inv .0) (omega arith) (l .inv .2))
 
 same-length : tie.Need-same-length Inv-loop μ-loop
 same-length c = search needs
 
 returns : tie.Need-returns Inv-loop μ-loop
-returns c = let all : c .before .loop .n ≡ c .before .before .args .w = omega arith in rw (← all) (c .before .loop .inv .2)
+returns c = clear-fewer _ _ _ _ (omega arith) (c .before .loop .inv .2)
 
 pub clear-spec : {M : Type 1} → statement M
 clear-spec =

@@ -8,25 +8,22 @@ use Rattle.lines.proofs.row_line.Tie as tie
 own-end-requires : tie.Need-own-end-requires
 own-end-requires c κs = search needs
 
-add-lesser : tie.Need-add-lesser
-add-lesser c = search needs
-
-lesser-requires : tie.Need-lesser-requires
-lesser-requires c κs = search needs
+rest-end-requires : tie.Need-rest-end-requires
+rest-end-requires c κs = search needs
 
 joined-requires : tie.Need-joined-requires
 joined-requires c κs =
     let others = c .before .before in
     let own = others .before in
     let s = own .before .before .before .before in
-    (s .pre .0, rw (own .own-end .ensures, others .lesser .ensures) (row-parts-swapped (s .pre .1 .1)))
+    (s .pre .0, rw (own .own-end .ensures, others .rest-end .ensures) (row-parts-swapped (s .pre .1 .1)))
 
 joined-requires-2 : tie.Need-joined-requires-2
 joined-requires-2 c κs =
     let others = c .before .before in
     let own = others .before in
     let s = own .before .before .before .before in
-    (s .pre .0, rw (own .own-end .ensures, others .lesser .ensures) (s .pre .1 .1))
+    (s .pre .0, rw (own .own-end .ensures, others .rest-end .ensures) (s .pre .1 .1))
 
 same-length : tie.Need-same-length
 same-length c = search needs
@@ -45,8 +42,7 @@ row-line-spec =
     tie.close
     (tie.spec
     own-end-requires
-    add-lesser
-    lesser-requires
+    rest-end-requires
     joined-requires
     joined-requires-2
     same-length

@@ -1,6 +1,6 @@
 -- `fill_one`: stores the line of node v with its ancestor u at depth a as the serving node.
 use mathlib.Core.Path.{_∙_}
-use Prim.Native.Nat.{_+_, _≤_}
+use Prim.Native.Nat.{_+_, _≤_, _<_}
 use native.Mathlib.Nat.{add-sub-cancel-left}
 use native.Mathlib.Omega.{arith}
 use lib.ListN.{length, getD}
@@ -44,6 +44,9 @@ held c =
 -- so the line can be made from them
 wide : (c : tie.After-width) → c .width .result ≤ mostWidth
 wide c = let st = start (read c) in omega (arith, c .width .ensures, served-width (st .pre .0) (st .pre .1 .1 .0))
+
+some : (c : tie.After-width) → 0 < c .width .result
+some c = omega (arith, c .width .ensures)
 
 parts : (c : tie.After-width) → let rest = read c in
     let a = start rest .args in
@@ -129,11 +132,11 @@ slice-aggregate-own-line c = search needs
 own-line-requires : tie.Need-own-line-requires
 own-line-requires c κs = let w = c .before in ((wide w, bounds w .few .0), parts w .node-parts)
 
-slice-aggregate-copy : tie.Need-slice-aggregate-copy
-slice-aggregate-copy c = search needs
+slice-aggregate-rest-line : tie.Need-slice-aggregate-rest-line
+slice-aggregate-rest-line c = search needs
 
-copy-requires : tie.Need-copy-requires
-copy-requires c κs = let w = c .before .before .before .before in (wide w, parts w .rest-line .long)
+rest-line-requires : tie.Need-rest-line-requires
+rest-line-requires c κs = let w = c .before .before .before .before in (wide w, parts w .rest-line .long, bounds w .few .1)
 
 line-at-requires : tie.Need-line-at-requires
 line-at-requires c κs = let st = start (read (c .before .before .before .before .before .before)) in served-place (st .pre .0) (st .pre .1 .1 .0)
@@ -163,11 +166,11 @@ row-line-requires : tie.Need-row-line-requires
 unfolding cap
 row-line-requires c κs =
     let at = c .before .before .before in
-    let copy = at .before .before in
-    let own = copy .before .before .before in
+    let rest = at .before .before in
+    let own = rest .before .before .before in
     let w = own .before .before in (
       simp add-sub-cancel-left (length-part _ _ _ (fits at)),
-      (bounds w .few, row-parts (parts w) (bounds w) (wide w) (own .own-line .ensures) (copy .copy .ensures)),
+      (bounds w .few, row-parts (parts w) (bounds w) (some w) (wide w) (own .own-line .ensures) (rest .rest-line .ensures)),
     )
 
 same-length : tie.Need-same-length
@@ -178,11 +181,11 @@ unfolding cap
 returns c =
     let made = c .before .before in
     let at = made .before .before .before .before in
-    let copy = at .before .before in
-    let own = copy .before .before .before in
+    let rest = at .before .before in
+    let own = rest .before .before .before in
     let w = own .before .before in
     let st = start (read w) in
-    let l = made .row-line .ensures ∙ row-is-line (parts w) (bounds w) (wide w) (own .own-line .ensures) (copy .copy .ensures) in
+    let l = made .row-line .ensures ∙ row-is-line (parts w) (bounds w) (some w) (wide w) (own .own-line .ensures) (rest .rest-line .ensures) in
     let is = line-read _ _ _ _ _ (st .pre .1 .1 .0) (held (read w)) (w .width .ensures) (pays-itself _ _ _ (st .args .u) (st .pre .1 .1 .1 .0)) (pays-above _ _ _ _ (st .pre .1 .1 .1 .1)) l in
     line-put _ _ _ _ (st .args .v) (st .args .a) _ _ (st .args .s .now) (fits at) (w .width .ensures) is ∙ rw (at .line-at .ensures)
 
@@ -203,8 +206,8 @@ fill-one-spec =
     width-requires
     slice-aggregate-own-line
     own-line-requires
-    slice-aggregate-copy
-    copy-requires
+    slice-aggregate-rest-line
+    rest-line-requires
     line-at-requires
     add-row-line
     mul-row-line
