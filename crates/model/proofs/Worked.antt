@@ -18,7 +18,8 @@ use Rattle.model.specs.Hosts.{wordsAsked, HostBillMemory, hostBillVerdic
 use Rattle.model.specs.Bytes.{bytesOf, headerBytes, recordOf}
 use Rattle.model.specs.Cases.{treeA}
 use Rattle.model.specs.Situations.{firstSituation, costIn, paperCost, situation}
-use Rattle.model.specs.Worked.{fileA, secondA, largest, secondLargest, threeSevenths, tooMuch, eachKind, secondEachKind, tooLong, Worked}
+use Rattle.model.specs.Samples.{fileA, secondA, largest, secondLargest, threeSevenths, tooMuch, eachKind, secondEachKind, tooLong}
+use Rattle.model.specs.Worked.{Worked}
 
 -- ---- what a call's statement settles
 

@@ -17,4 +17,5 @@ pub mod Children
 pub mod Laws
 pub mod Versions
 pub mod Situations
+pub mod Samples
 pub mod Worked
