@@ -132,7 +132,7 @@ module _ (node rest : List ℕ) (w : ℕ) where
 
 pub row-parts-swapped : {w a b : ℕ} {node rest : List ℕ} → RowParts w node rest a b → RowParts w rest node b a
 row-parts-swapped p = record {
-  wide = p .wide;
+  nonempty = p .nonempty;
   long = (p .long .1, p .long .0);
   ends = (p .ends .1, p .ends .0);
   none = (p .none .1, p .none .0);
@@ -148,25 +148,32 @@ joined-best-swapped node rest m =
 pub joined-swapped : (node rest : List ℕ) (w : ℕ) → map (joinedBest node rest) (range 0 w) ≡ map (joinedBest rest node) (range 0 w)
 joined-swapped node rest w = same-on-range (joinedBest node rest) (joinedBest rest node) 0 w (λ m _ _. joined-best-swapped node rest m)
 
--- ---- all entries, from a node's line and the later siblings' line, each stored up to its end
+-- ---- all entries, from a node's line and the later siblings' line, each stored up to its end in a line of caps
+
+module _ (f : ℕ → ℕ) (e n : ℕ) where
+  abbrev stored : List ℕ
+  stored = sets (replicate mostWidth cap) 0 (map f (range 0 e))
+
+  stored-entry : e ≤ mostWidth → n < e → getD stored n 0 ≡ f n
+  stored-entry h l = entry-stored (replicate mostWidth cap) f e n (rw length-replicate h) l
+
+  stored-none : e ≤ n → n < mostWidth → getD stored n 0 ≡ cap
+  stored-none h k =
+      entry-after (replicate mostWidth cap) 0 (map f (range 0 e)) n (rw (length-of-range f 0 e) (omega arith))
+      ∙ getD-replicate mostWidth n cap 0 k
 
 module _ {cached uncached rest : List ℕ} {member other w below after : ℕ} (parts : LineParts w cached uncached rest member other)
-    (bounds : RowBounds w cached uncached rest below after) (some : 0 < w) (wide : w ≤ mostWidth) {node copy : List ℕ}
+    (bounds : RowBounds w cached uncached rest below after) (nonempty : 0 < w) (wide : w ≤ mostWidth) {node copy : List ℕ}
     (known : node ≡ sets (replicate mostWidth cap) 0 (map (lineNode cached uncached member other) (range 0 (ownEnd w below))))
     (copied : copy ≡ sets (replicate mostWidth cap) 0 (take (restEnd w after) rest)) where
   abbrev end : ℕ
   end = ownEnd w below
 
   entry-known : (n : ℕ) → n < end → getD node n 0 ≡ lineNode cached uncached member other n
-  entry-known n h =
-      rw known (entry-stored (replicate mostWidth cap) (lineNode cached uncached member other) end n (rw length-replicate (omega arith)) h)
+  entry-known n h = rw known (stored-entry _ end n (omega arith) h)
 
   entry-none : (n : ℕ) → end ≤ n → n < w → getD node n 0 ≡ cap
-  entry-none n h k =
-      rw known
-      (entry-after (replicate mostWidth cap) 0 (map (lineNode cached uncached member other) (range 0 end)) n
-      (rw (length-of-range (lineNode cached uncached member other) 0 end) (omega arith))
-      ∙ getD-replicate mostWidth n cap 0 (omega arith))
+  entry-none n h k = rw known (stored-none _ end n h (omega arith))
 
   entry-within : (n : ℕ) → n < w → getD node n 0 ≤ cap + cap
   entry-within n h =
@@ -180,18 +187,16 @@ module _ {cached uncached rest : List ℕ} {member other w below after : ℕ} (p
   entry-copied n h =
       rw (copied, front-is-entries (restEnd w after) rest (omega (arith, parts .rest-line .long)))
       (elim (decLt n (restEnd w after)) [
-        | yes l ↦ entry-stored (replicate mostWidth cap) (λ j. getD rest j 0) (restEnd w after) n (rw length-replicate (omega arith)) l
+        | yes l ↦ stored-entry _ (restEnd w after) n (omega arith) l
         | no l ↦
-            entry-after (replicate mostWidth cap) 0 (map (λ j. getD rest j 0) (range 0 (restEnd w after))) n
-            (rw (length-of-range (λ j. getD rest j 0) 0 (restEnd w after)) (omega arith))
-            ∙ getD-replicate mostWidth n cap 0 (omega arith)
+            stored-none _ (restEnd w after) n (omega arith) (omega arith)
             ∙ omega (arith, bounds .rest-none n (omega arith) h, parts .rest-line .within n h)
       ])
 
   pub row-parts : RowParts w node copy (ownEnd w below) (restEnd w after)
   unfolding cap
   row-parts = record {
-    wide = some;
+    nonempty = nonempty;
     long = (rw (known, length-sets) (rw length-replicate wide), rw (copied, length-sets) (rw length-replicate wide));
     ends = (omega arith, omega arith);
     none = (λ n h k. omega (arith, entry-none n h k), λ n h k. omega (arith, entry-copied n k, bounds .rest-none n (omega arith) k));

@@ -98,7 +98,7 @@ restEnd w after = min w (after + 1)
 -- the lines of the two parts of a row: from `own` caches on they do not fit in the first, from `others` on not in the second; and
 -- every sum of an entry of each is below 2^64
 pub record RowParts (w : ℕ) (node rest : List ℕ) (own others : ℕ) : Type 0 where
-  pub wide : 0 < w
+  pub nonempty : 0 < w
   pub long : (w ≤ length node) × (w ≤ length rest)
   pub ends : (own ≤ w) × (others ≤ w)
   pub none : NoFitFrom own w node × NoFitFrom others w rest

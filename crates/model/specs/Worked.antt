@@ -1,5 +1,5 @@
 -- Document 01's worked cases that it does not mark *, and its numbers from elsewhere, with those of 02, items 2 and 4: each on a
--- file written out byte by byte, with the answer that the documents give.
+-- file written out byte by byte (`Samples`), with the answer that the documents give.
 use mathlib.Core.Path.{_≡_}
 use mathlib.Core.List.{List, [], _∷_, _++_, map}
 use Prim.Native.Nat.{ℕ}

@@ -15,25 +15,26 @@ Inv-loop line₀ first second w end stop r₀ line r =
 abbrev μ-loop : tie.MeasureT-loop
 μ-loop line₀ first second w end stop r₀ line r = stop - r
 
--- the start, seen from where the first sums are made and from the loop's state, and that from where the number of entries to lower
--- was found
+-- the start, seen from where the first sums are made
 abbrev start : tie.After-shared-slice-known3 Inv-loop μ-loop → tie.Start Inv-loop μ-loop
 start e = e .before .before .before .before .before
 
+-- the start, seen from the loop's state
 abbrev entered : tie.At-loop Inv-loop μ-loop → tie.Start Inv-loop μ-loop
 entered e = start (e .before .before .before .before .before .before .before .before)
 
+-- the loop's state, seen from where the number of entries to lower was found
 abbrev state : tie.After-lesser Inv-loop μ-loop → tie.At-loop Inv-loop μ-loop
 state e = e .before .before .before
 
 shared-slice-read-t12 : tie.Need-shared-slice-read-t12 Inv-loop μ-loop
-shared-slice-read-t12 c = let p = start c .pre .1 in omega (arith, p .long .1, p .wide)
+shared-slice-read-t12 c = let p = start c .pre .1 in omega (arith, p .long .1, p .nonempty)
 
 begin-requires : tie.Need-begin-requires Inv-loop μ-loop
 begin-requires c κs =
     let p = start c .pre .1 in (
       (omega (arith, start c .pre .0, p .ends .0), omega (arith, p .long .0, p .ends .0)),
-      λ n h. p .fits n 0 (omega (arith, p .ends .0)) (p .wide),
+      λ n h. p .fits n 0 (omega (arith, p .ends .0)) (p .nonempty),
     )
 
 clear-requires : tie.Need-clear-requires Inv-loop μ-loop
@@ -45,7 +46,7 @@ loop-holds c =
     let begin = c .before .before .before .before .before .before .begin in
     let s = start (c .before .before .before .before .before .before .before) in
     let p = s .pre .1 in (
-      omega (arith, p .wide),
+      omega (arith, p .nonempty),
       clear .kept .0 ∙ begin .kept .0 ∙ s .pre .0,
       row-begins (s .args .first .now) (s .args .second .now) (s .args .w) (s .args .end) (begin .last .0) (clear .last .0) (p .none .0) refl (begin .ensures) (clear .ensures),
     )

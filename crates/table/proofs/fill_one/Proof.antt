@@ -45,8 +45,8 @@ held c =
 wide : (c : tie.After-width) → c .width .result ≤ mostWidth
 wide c = let st = start (read c) in omega (arith, c .width .ensures, served-width (st .pre .0) (st .pre .1 .1 .0))
 
-some : (c : tie.After-width) → 0 < c .width .result
-some c = omega (arith, c .width .ensures)
+nonempty : (c : tie.After-width) → 0 < c .width .result
+nonempty c = omega (arith, c .width .ensures)
 
 parts : (c : tie.After-width) → let rest = read c in
     let a = start rest .args in
@@ -170,7 +170,7 @@ row-line-requires c κs =
     let own = rest .before .before .before in
     let w = own .before .before in (
       simp add-sub-cancel-left (length-part _ _ _ (fits at)),
-      (bounds w .few, row-parts (parts w) (bounds w) (some w) (wide w) (own .own-line .ensures) (rest .rest-line .ensures)),
+      (bounds w .few, row-parts (parts w) (bounds w) (nonempty w) (wide w) (own .own-line .ensures) (rest .rest-line .ensures)),
     )
 
 same-length : tie.Need-same-length
@@ -185,7 +185,7 @@ returns c =
     let own = rest .before .before .before in
     let w = own .before .before in
     let st = start (read w) in
-    let l = made .row-line .ensures ∙ row-is-line (parts w) (bounds w) (some w) (wide w) (own .own-line .ensures) (rest .rest-line .ensures) in
+    let l = made .row-line .ensures ∙ row-is-line (parts w) (bounds w) (nonempty w) (wide w) (own .own-line .ensures) (rest .rest-line .ensures) in
     let is = line-read _ _ _ _ _ (st .pre .1 .1 .0) (held (read w)) (w .width .ensures) (pays-itself _ _ _ (st .args .u) (st .pre .1 .1 .1 .0)) (pays-above _ _ _ _ (st .pre .1 .1 .1 .1)) l in
     line-put _ _ _ _ (st .args .v) (st .args .a) _ _ (st .args .s .now) (fits at) (w .width .ensures) is ∙ rw (at .line-at .ensures)
 
