@@ -5,8 +5,10 @@
  * type and not NULL, also where the length is 0, and the lent arrays of one call do not overlap each other or the file.
  *
  * File. A tree file as bytes, of any content and length: its version, n nodes and budget k are read from it. A record of
- * version 1 has 10 bytes, the last 2 of them the hit ratio; one of version 2 has 12, the last 4 of them the cachable bytes. No
- * accepted file is longer than KTERC_FILE_BYTES, 12,297.
+ * version 1 has 10 bytes, the last 2 of them the hit ratio; one of version 2 has 12, the last 4 of them the cachable bytes;
+ * one of version 3 has a byte more, 1 where a cache may stand and 0 where not: such a node is closed, and no set has it, but
+ * its client and its link count like any other's. In versions 1 and 2 each node is open. No accepted file is longer than
+ * KTERC_FILE_BYTES, 13,321.
  *
  * Scratch. Words of 64 bits, n * (h + 1) * (k + 1) + 4 * n of them, where h is the tree's height; kterc_scratch_words says how
  * many, and at most KTERC_SCRATCH_WORDS are asked. What they hold before a call does not matter. After an accepted call these
@@ -35,7 +37,7 @@ extern "C" {
 #define KTERC_NODES 1024
 #define KTERC_BUDGET 32
 #define KTERC_DEPTH 32
-#define KTERC_FILE_BYTES (9 + 12 * KTERC_NODES)
+#define KTERC_FILE_BYTES (9 + 13 * KTERC_NODES)
 #define KTERC_SCRATCH_WORDS (KTERC_NODES * (KTERC_DEPTH + 1) * (KTERC_BUDGET + 1) + 4 * KTERC_NODES)
 
 /* The stack of each call, in bytes. */
@@ -49,25 +51,26 @@ extern "C" {
 #define KTERC_RULE(answer) ((answer) % 256)
 #define KTERC_RECORD(answer) ((answer) / 256)
 
-/* 0, or the number (not the record) of the first broken rule among 1 to 11, with 17 in the place of 11 in version 2. */
+/* 0, or the number (not the record) of the first broken rule among 1 to 11, from version 2 on with 17 in the place of 11, and in
+ * version 3 with 24 as the last rule on each record. */
 uint32_t kterc_check(const uint8_t *file, size_t file_length);
 
 /* The words of scratch that rule 13 asks for, 0 if the file is refused. */
 size_t kterc_scratch_words(const uint8_t *file, size_t file_length);
 
-/* The bill of a set of nodes, which is strictly ascending, each from 1 to n - 1 (rule 12). Asked of the arrays (rule 14): 1 entry
- * of total, n of serving, n of loads. Writes the set's total, the serving node of each node, and the load on the link above each
- * node. */
+/* The bill of a set of nodes, which is strictly ascending, each from 1 to n - 1 and open (rule 12). Asked of the arrays (rule
+ * 14): 1 entry of total, n of serving, n of loads. Writes the set's total, the serving node of each node, and the load on the
+ * link above each node. */
 uint32_t kterc_bill(const uint8_t *file, size_t file_length, const uint16_t *set, size_t set_length, uint64_t *total,
                     size_t total_length, uint16_t *serving, size_t serving_length, uint64_t *loads, size_t loads_length);
 
 /* The plan. Asked of the arrays: k + 1 entries of totals, (k + 1) * k of rows. Total b, counted from 0, is the least total of at
- * most b caches; row b, at rows + b * k, has the nodes of the first set that reaches it, ascending, then zeros. */
+ * most b caches at open nodes; row b, at rows + b * k, has the nodes of the first set that reaches it, ascending, then zeros. */
 uint32_t kterc_plan(const uint8_t *file, size_t file_length, uint64_t *scratch, size_t scratch_length, uint64_t *totals,
                     size_t totals_length, uint16_t *rows, size_t rows_length);
 
-/* The greedy rule. Asked of the arrays: k + 1 entries of totals, k of nodes. Total b is what it reaches in at most b steps; nodes
- * stand in the order taken, then zeros. */
+/* The greedy rule, at open nodes. Asked of the arrays: k + 1 entries of totals, k of nodes. Total b is what it reaches in at most
+ * b steps; nodes stand in the order taken, then zeros. */
 uint32_t kterc_greedy(const uint8_t *file, size_t file_length, uint64_t *scratch, size_t scratch_length, uint64_t *totals,
                       size_t totals_length, uint16_t *nodes, size_t nodes_length);
 

@@ -16,8 +16,8 @@ enum { EACH_SIZE = 2, SMALL = 2000, SMALL_NODES = 9, DAMAGED = 4 };
 
 static uint64_t seed = 20000601;
 
-/* Trees of the version at hand and of them those enumerated; files and calls of all versions. */
-static struct { long trees, enumerated, damaged, calls, refused; } count;
+/* Trees of the version at hand and of them those enumerated; files, sets with a closed node and calls of all versions. */
+static struct { long trees, enumerated, damaged, closed, calls, refused; } count;
 
 /* The tree at hand, its file and what the reference says of it; and the same before the file was damaged. */
 static struct {
@@ -125,7 +125,7 @@ static void try_report(void)
 static int is_set(const uint16_t *set, size_t members)
 {
     for (size_t i = 0; i < members; i++)
-        if (set[i] >= at.n || set[i] <= (i ? set[i - 1] : 0)) return 0;
+        if (set[i] >= at.n || set[i] <= (i ? set[i - 1] : 0) || !at.tree.open[set[i]]) return 0;
     return 1;
 }
 
@@ -149,11 +149,12 @@ static void try_bill(const uint16_t *set, size_t members)
 static void try_sets(void)
 {
     uint16_t set[NODES + 1] = { 0 };
-    size_t members = random_set(set, at.n, &seed), planned = 0;
+    size_t members = random_set(set, &at.tree, &seed), planned = 0;
     while (planned < at.k && at.plan.row[at.k][planned])
         planned++;
     try_bill(at.plan.row[at.k], planned);
     try_bill(set, members);
+    if (add_closed(set, members, &at.tree, &seed)) try_bill(set, ++members), count.closed += !at.code;
     set[upto(members)] = upto(at.n + 1);
     try_bill(set, members + upto(1));
 }
@@ -233,6 +234,7 @@ int main(void)
     for (int version = 1; version <= VERSIONS; version++)
         try_version(version);
     printf("%ld damaged files\n", count.damaged);
+    printf("%ld sets with a closed node, refused by rule 12\n", count.closed);
     printf("%ld calls, %ld of them refused, with guards around every buffer\n", count.calls, count.refused);
     printf("none differed\n");
     return !stacks_suffice();

@@ -36,6 +36,7 @@ static struct {
     uint8_t file[FILE_BYTES];
     size_t length, members;
     uint16_t set[NODES];
+    struct tree tree;
     uint32_t answer;
 } at;
 
@@ -104,7 +105,8 @@ int stacks_suffice(void)
     int good = 1;
     for (int i = 0; i < VERSIONS * SHAPES * EACH_SHAPE; i++) {
         at.length = shaped_tree(at.file, 1 + i / SHAPES % VERSIONS, i % SHAPES, NODES, BUDGET, &seed);
-        at.members = random_set(at.set, NODES, &seed);
+        planner.read(at.file, at.length, &at.tree);
+        at.members = random_set(at.set, &at.tree, &seed);
         for (int c = 0; c < CALLS; c++)
             good &= accepted(c);
     }

@@ -12,7 +12,7 @@ static inline int min(int a, int b) { return a < b ? a : b; }
 
 /* ---- the file */
 
-/* The last field of a record: rule 11 or 17, and the cachable flow in thousandths. */
+/* The hit ratio or the cachable bytes: rule 11 or 17, and the cachable flow in thousandths. */
 static uint32_t read_cachable(const uint8_t *field, int version, uint32_t flow, uint64_t *cachable)
 {
     if (version == 1) {
@@ -23,6 +23,13 @@ static uint32_t read_cachable(const uint8_t *field, int version, uint32_t flow, 
     uint32_t bytes = number(field, 4);
     *cachable = 1000 * (uint64_t)bytes;
     return bytes > flow ? 17 : 0;
+}
+
+/* The last byte of a record in version 3: rule 24. */
+static uint32_t read_open(const uint8_t *record, int version, int *open)
+{
+    *open = version < 3 || record[12] == 1;
+    return version == 3 && record[12] > 1 ? 24 : 0;
 }
 
 static uint32_t read_record(const uint8_t *r, int version, int i, struct tree *t)
@@ -46,7 +53,8 @@ static uint32_t read_record(const uint8_t *r, int version, int i, struct tree *t
     t->dist[i] = i ? t->dist[parent] + length : 0;
     t->full[i] = 1000 * (uint64_t)flow;
     if (depth > t->h) t->h = depth;
-    return read_cachable(r + 8, version, flow, &t->cachable[i]);
+    uint32_t rule = read_cachable(r + 8, version, flow, &t->cachable[i]);
+    return rule ? rule : read_open(r, version, &t->open[i]);
 }
 
 static uint32_t read_tree(const uint8_t *file, size_t length, struct tree *t)
@@ -67,11 +75,11 @@ static uint32_t read_tree(const uint8_t *file, size_t length, struct tree *t)
     return 0;
 }
 
-/* First children, next siblings, nodes at or below each node, and nodes of the row that begins with it. */
+/* First children, next siblings, open nodes at or below each node, and those of the row that begins with it. */
 static void link_rows(struct tree *t)
 {
     for (int v = 0; v < t->n; v++)
-        t->first[v] = t->next[v] = 0, t->size[v] = 1;
+        t->first[v] = t->next[v] = 0, t->size[v] = t->open[v];
     for (int v = t->n - 1; v > 0; v--) {
         int p = t->parent[v];
         t->next[v] = t->first[p];
@@ -130,15 +138,21 @@ static inline void join_runs(int k, struct counts c, const uint64_t *node, const
     }
 }
 
+/* What a node's client costs with a cache there, NONE where none may stand. */
+static inline uint64_t own_cost(const struct tree *t, int v)
+{
+    return t->open[v] ? (t->full[v] - t->cachable[v]) * t->dist[v] : NONE;
+}
+
 /* A node's own line from those of its children, for each depth of the nearest cache above, then the row's. */
 static inline void fill_node(const struct tree *t, uint64_t *table, int v, enum fill fill)
 {
     int k = t->k, next = t->next[v], first = t->first[v], serving[DEPTH + 1];
     for (int u = v, a = t->depth[v]; a >= 0; a--, u = t->parent[u])
         serving[a] = u;
-    struct counts c = { min(k, t->size[v] - 1), min(k, t->size[v]), next ? min(k, t->row[next]) : 0, min(k, t->row[v]) };
+    struct counts c = { min(k, t->size[v] - t->open[v]), min(k, t->size[v]), next ? min(k, t->row[next]) : 0, min(k, t->row[v]) };
     const uint64_t *under = line(t, table, first, t->depth[v]);
-    uint64_t base = t->full[v] * t->dist[v], cached = base - t->cachable[v] * t->dist[v];
+    uint64_t base = t->full[v] * t->dist[v], cached = own_cost(t, v);
     uint64_t with[BUDGET + 1], node[BUDGET + 1];
     for (int m = 1; m <= c.top; m++)
         with[m] = cached + under[m - 1];
@@ -165,7 +179,7 @@ static uint16_t *walk(const struct tree *t, const uint64_t *table, int v, int up
     for (; v && m; v = t->next[v]) {
         int a = t->depth[up], here = min(m, t->size[v]), member = 0;
         uint64_t base = t->full[v] * t->dist[v], least = line(t, table, v, a)[m];
-        uint64_t plain = base - t->cachable[v] * t->dist[up], cached = base - t->cachable[v] * t->dist[v];
+        uint64_t plain = base - t->cachable[v] * t->dist[up], cached = own_cost(t, v);
         const uint64_t *spare = line(t, table, t->first[v], a), *under = line(t, table, t->first[v], t->depth[v]);
         const uint64_t *rest = line(t, table, t->next[v], a);
         for (; here > 0; here--) {
@@ -230,7 +244,7 @@ static void make_greedy(const struct tree *t, struct greedy *g)
                 if (taken[v]) continue;
                 uint64_t gain = reach[v] * (t->dist[v] - above[v]);
                 reach[t->parent[v]] += reach[v];
-                if (gain && gain >= most) most = gain, node = v; /* the smallest number on a tie */
+                if (t->open[v] && gain && gain >= most) most = gain, node = v; /* the smallest number on a tie */
             }
             done = !node;
         }
@@ -298,6 +312,13 @@ static size_t nodes_of(const struct tree *t, unsigned set, uint16_t *out)
     return count;
 }
 
+static int all_open(const struct tree *t, unsigned set)
+{
+    for (int v = 1; v < t->n; v++)
+        if ((set >> v & 1) && !t->open[v]) return 0;
+    return 1;
+}
+
 static void enumerate(const struct tree *t, struct plan *p)
 {
     static struct bill b;
@@ -305,7 +326,7 @@ static void enumerate(const struct tree *t, struct plan *p)
         unsigned best = 0;
         uint16_t nodes[NODES];
         for (unsigned set = 0; set < 1u << t->n; set += 2) {
-            if (__builtin_popcount(set) > k) continue;
+            if (__builtin_popcount(set) > k || !all_open(t, set)) continue;
             make_bill(t, nodes, nodes_of(t, set, nodes), &b);
             if (set && (b.total > p->total[k] || (b.total == p->total[k] && !ties_before(t, set, best)))) continue;
             p->total[k] = b.total, best = set;

@@ -8,13 +8,14 @@
 
 enum { NODES = 1024, BUDGET = 32, DEPTH = 32, LENGTH = 1000, HIT = 1000, FLOW = 100000000, HEADER = 9 };
 
-/* Version 1 of the file has hit ratios, version 2 cachable bytes; and the bytes of a record in each. */
-enum { VERSIONS = 2, RECORD_1 = 10, RECORD_2 = 12 };
+/* Version 1 of the file has hit ratios, version 2 cachable bytes, version 3 also where a cache may stand; and the bytes of a
+ * record in each. */
+enum { VERSIONS = 3, RECORD_1 = 10, RECORD_2 = 12, RECORD_3 = 13 };
 
 /* The longest file, and the most words of scratch. */
-enum { FILE_BYTES = HEADER + RECORD_2 * NODES, SCRATCH_WORDS = NODES * (DEPTH + 1) * (BUDGET + 1) + 4 * NODES };
+enum { FILE_BYTES = HEADER + RECORD_3 * NODES, SCRATCH_WORDS = NODES * (DEPTH + 1) * (BUDGET + 1) + 4 * NODES };
 
-static inline int record_bytes(int version) { return version == 1 ? RECORD_1 : RECORD_2; }
+static inline int record_bytes(int version) { return version == 1 ? RECORD_1 : version == 2 ? RECORD_2 : RECORD_3; }
 
 /* The number in `width` bytes, most significant first. */
 static inline uint32_t number(const uint8_t *p, int width)
@@ -27,9 +28,11 @@ static inline uint32_t number(const uint8_t *p, int width)
 
 struct tree {
     int n, k, h;
-    int parent[NODES], depth[NODES], first[NODES], next[NODES], size[NODES], row[NODES];
+    int parent[NODES], depth[NODES], first[NODES], next[NODES];
+    int open[NODES];             /* 1 where a cache may stand, else 0 */
+    int size[NODES], row[NODES]; /* open nodes at or below a node, and in the row of siblings that begins with it */
     uint64_t length[NODES], dist[NODES];
-    uint64_t full[NODES], cachable[NODES]; /* thousandths: 1000 f; p f, or in version 2 1000 times the cachable bytes */
+    uint64_t full[NODES], cachable[NODES]; /* thousandths: 1000 f; p f, or from version 2 on 1000 times the cachable bytes */
 };
 
 struct plan {
@@ -54,13 +57,13 @@ enum fill { SPLITS, RUNS };
 
 /* One object file of reference.c exports one of these; the benchmark links it at two levels of optimization. */
 struct planner {
-    /* Rules 1 to 11, and 17 in the place of 11 in version 2: 0, or record * 256 + number. */
+    /* Rules 1 to 11, from version 2 on 17 in the place of 11, and 24 in version 3: 0, or record * 256 + number. */
     uint32_t (*read)(const uint8_t *file, size_t length, struct tree *t);
     void (*plan)(struct tree *t, uint64_t *scratch, enum fill fill, struct plan *p);
     void (*greedy)(const struct tree *t, struct greedy *g);
     /* By the definition of cost, flow by flow. */
     void (*bill)(const struct tree *t, const uint16_t *set, size_t members, struct bill *b);
-    /* Every set of at most b nodes, by the ranking word for word; for few nodes. */
+    /* Every set of at most b open nodes, by the ranking word for word; for few nodes. */
     void (*enumerate)(const struct tree *t, struct plan *p);
 };
 

@@ -1,18 +1,21 @@
 -- The dynamic program finds the first of the allowed sets. With what the nodes of the tree may be, that is the plan, and its
 -- least is the plan's total.
 use mathlib.Core.Path.{_≡_, refl, sym, ap, _∙_}
-use mathlib.Core.Bool.{Bool, true}
+use mathlib.Core.Bool.{Bool, true, not, _||_}
 use mathlib.Core.List.{List, []}
 use Prim.Native.Nat.{ℕ, _-_, _≤_}
 use native.Mathlib.Omega.{arith}
 use lib.ListN.{length}
+use Rattle.laws.specs.Lists.{has}
+use Rattle.laws.proofs.Bools.{by-test}
+use Rattle.laws.proofs.Lists.{in-range}
 use Rattle.model.specs.File.{Tree, Demand, treeOf, demandOf}
 use Rattle.model.specs.Rules.{passed, fileVerdict, isSet}
 use Rattle.model.specs.Bill.{total}
 use Rattle.model.specs.Plan.{plan, planTotal}
 use Rattle.model.specs.Accepted.{Sound}
 use Rattle.model.proofs.Accepted.{accepted-sound}
-use Rattle.model.proofs.Ascending.{set-is, set-ascends, empty-is-set}
+use Rattle.model.proofs.Ascending.{ascends-bounds, set-said, empty-is-set}
 use Rattle.model.proofs.Plans.{only-plan}
 use Rattle.best_rows.specs.Guarded.{mayBe, AllowedSet, RanksFirstAllowed}
 use Rattle.best_rows.specs.TreeRows.{nodesAfter, firstChild, rowAt, serverRow}
@@ -40,10 +43,23 @@ allowed-found t d ok allows b l some =
 module _ (t : Tree) (b : ℕ) (k : List ℕ) where
   set-allowed : isSet t k ≡ true → length k ≤ b → AllowedSet t (mayBe t) b k
   unfolding mayBe
-  set-allowed g h = record { ascending = set-ascends t k g; within = h; allowed = λ v _. refl }
+  set-allowed g h =
+      let said = set-said t k .0 g in
+      record {
+        ascending = said .0;
+        within = h;
+        allowed = λ v _. by-test (λ u. has k v ≡ u → (not u || t .isOpen v) ≡ true) (has k v) (λ _. said .1 v) (λ _ _. refl) refl;
+      }
 
   allowed-set : AllowedSet t (mayBe t) b k → isSet t k ≡ true
-  allowed-set a = set-is t k ∙ a .ascending
+  unfolding mayBe
+  allowed-set a =
+      set-said t k .1 (
+        a .ascending,
+        λ v m.
+            let site = ascends-bounds (t .count) 0 v k (a .ascending) m in
+            rw m at (a .allowed v (in-range 1 (t .count - 1) v (omega arith) (omega arith))),
+      )
 
 -- for every accepted file and every budget
 pub optimum-found : (file : List ℕ) → fileVerdict file ≡ passed → (b : ℕ)

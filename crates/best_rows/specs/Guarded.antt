@@ -1,6 +1,6 @@
 -- Costs where not every choice is allowed at a node: a cache may be forbidden there, or required.
 use mathlib.Core.Path.{_≡_}
-use mathlib.Core.Bool.{Bool, true, cond}
+use mathlib.Core.Bool.{Bool, true, cond, not, _||_}
 use mathlib.Core.List.{List}
 use Prim.Native.Nat.{ℕ, _≤_}
 use lib.ListN.{length}
@@ -26,9 +26,9 @@ module _ (allows : ℕ → Bool → Bool) where
   abbrev pub KeepsTo : List ℕ → List ℕ → Type 0
   KeepsTo k l = (v : ℕ) → has l v ≡ true → allows v (has k v) ≡ true
 
--- may node v of the tree be a cache (u is true), or none (u is false)? Document 01 allows both.
+-- may node v of the tree be a cache (u is true), or none (u is false)? None always, a cache where the node is open.
 unfoldable pub mayBe : Tree → ℕ → Bool → Bool
-mayBe t v u = true
+mayBe t v u = not u || t .isOpen v
 
 -- K is an ascending list of at most b nodes from 1 to n − 1 that keeps to what is allowed
 pub record AllowedSet (t : Tree) (allows : ℕ → Bool → Bool) (b : ℕ) (k : List ℕ) : Type 0 where

@@ -6,11 +6,10 @@ use Prim.Native.Nat.{ℕ}
 use denote.Builtin.{u16}
 use denote.Ref.{now}
 use Rattle.laws.specs.Slices.{Slice}
-use Rattle.model.specs.File.{treeOf, demandOf, countOf}
-use Rattle.model.specs.Rules.{passed, broken, fileVerdict, ascends}
+use Rattle.model.specs.File.{treeOf, demandOf}
+use Rattle.model.specs.Rules.{passed, broken, fileVerdict, isSet}
 use Rattle.model.specs.Ties.{ranksBefore}
 use Rattle.model.specs.Calls.{Answer, answered, refused, Winner, first, second, rankVerdict, ranking, named, winner}
-use Rattle.model.proofs.Ascending.{set-told}
 use Rattle.compare.specs.Answers.{rankingOf, WinnerHandedBack}
 use Rattle.compare.specs.declared.Ranking.{Ranking}
 
@@ -20,25 +19,25 @@ module _ (file k l : List ℕ) where
   unfolding ranking rankVerdict
   ranking-refused-file e = rw (sym e)
 
-  module _ {n : ℕ} (ok : passed ≡ fileVerdict file) (nodes : n ≡ countOf file) where
+  module _ (ok : passed ≡ fileVerdict file) where
     -- rule 12, of the first set and then of the second
-    pub ranking-refused-first : ascends 0 n k ≡ false → refused 12 0 ≡ ranking file k l
+    pub ranking-refused-first : isSet (treeOf file) k ≡ false → refused 12 0 ≡ ranking file k l
     unfolding ranking rankVerdict
-    ranking-refused-first e = rw (sym ok, set-told (treeOf file) k nodes e)
+    ranking-refused-first e = rw (sym ok, e)
 
-    module _ (first-set : ascends 0 n k ≡ true) where
-      pub ranking-refused-second : ascends 0 n l ≡ false → refused 12 0 ≡ ranking file k l
+    module _ (first-set : isSet (treeOf file) k ≡ true) where
+      pub ranking-refused-second : isSet (treeOf file) l ≡ false → refused 12 0 ≡ ranking file k l
       unfolding ranking rankVerdict
-      ranking-refused-second e = rw (sym ok, set-told (treeOf file) k nodes first-set, set-told (treeOf file) l nodes e)
+      ranking-refused-second e = rw (sym ok, first-set, e)
 
-      module _ (second-set : ascends 0 n l ≡ true) where
+      module _ (second-set : isSet (treeOf file) l ≡ true) where
         pub ranking-second : ranksBefore (treeOf file) (demandOf file) l k ≡ true → answered second ≡ ranking file k l
         unfolding ranking rankVerdict
-        ranking-second e = rw (sym ok, set-told (treeOf file) k nodes first-set, set-told (treeOf file) l nodes second-set, e)
+        ranking-second e = rw (sym ok, first-set, second-set, e)
 
         pub ranking-first : ranksBefore (treeOf file) (demandOf file) l k ≡ false → answered first ≡ ranking file k l
         unfolding ranking rankVerdict
-        ranking-first e = rw (sym ok, set-told (treeOf file) k nodes first-set, set-told (treeOf file) l nodes second-set, e)
+        ranking-first e = rw (sym ok, first-set, second-set, e)
 
 module _ (file : List ℕ) (k l r : Slice u16) where
   -- the slice handed back holds the set that an answer names

@@ -118,10 +118,10 @@ pub fn rank(file: &[u8], first: &[u16], second: &[u16]) -> Ranking
     match ruling {
         tree_file::Ruling::Passed => {
             let n = fields::count_of(file);
-            if !placement::is_set(first, n) {
+            if !placement::is_set(file, n, first) {
                 return Ranking::Refused(12, 0);
             }
-            if !placement::is_set(second, n) {
+            if !placement::is_set(file, n, second) {
                 return Ranking::Refused(12, 0);
             }
             if ranks_before(file, n, second, first) {

@@ -3,7 +3,7 @@ ghost use mathlib.Core.Path.{_≡_};
 ghost use Prim.Native.Nat.{_+_, _*_, _≤_, _<_, _^_};
 ghost use lib.Dec.{leb};
 ghost use lib.ListN.{length};
-ghost use Rattle.model.specs.File.{number, mostNodes, headerLength, versionOf, countOf, budgetOf, hasRatios, recordLength, recordAt, fieldOf, treeOf, demandOf};
+ghost use Rattle.model.specs.File.{number, mostNodes, headerLength, versionOf, countOf, budgetOf, hasRatios, hasOpenBytes, recordLength, recordAt, fieldOf, treeOf, demandOf};
 ghost use Rattle.model.specs.Bill.{whole, cachable};
 ghost use Rattle.fields.specs.Table.{rowOf, fieldAt, HasField, InFile};
 
@@ -34,10 +34,10 @@ impl Tree {
 
     pub const HIT: u64 = 1_000;
 
-    // version 1 has a hit ratio for each client, version 2 cachable bytes
+    // version 1 has a hit ratio for each client, version 2 cachable bytes, version 3 also a last byte in each record
     pub const FIRST_VERSION: u64 = 1;
 
-    pub const NEWEST_VERSION: u64 = 2;
+    pub const THIRD_VERSION: u64 = 3;
 
     pub const HEADER: usize = 9;
 
@@ -48,10 +48,12 @@ impl Tree {
 
     const BUDGET_AT: usize = 7;
 
-    // the bytes of a record in version 1, and in version 2
+    // the bytes of a record in versions 1, 2 and 3
     const RATIO_RECORD: usize = 10;
 
     const BYTES_RECORD: usize = 12;
+
+    const OPEN_RECORD: usize = 13;
 
     // which row of the table is which field
     pub const PARENT_FIELD: usize = 0;
@@ -64,7 +66,9 @@ impl Tree {
 
     pub const CACHABLE_FIELD: usize = 4;
 
-    pub const FIELDS: [Field; 5] = [
+    pub const OPEN_FIELD: usize = 5;
+
+    pub const FIELDS: [Field; 6] = [
         Field {
             offset: 0,
             width: 2,
@@ -90,12 +94,17 @@ impl Tree {
             width: 4,
             most: Tree::FLOW,
         },
+        Field {
+            offset: 12,
+            width: 1,
+            most: 1,
+        },
     ];
 }
 
 // Row `f` of the table.
 pub fn row_of(f: usize) -> Field
-    requires { ⌜ f < 5 ⌝ }
+    requires { ⌜ f < 6 ⌝ }
     ensures { λ r. ⌜ rowOf r ≡ fieldAt f ⌝ }
 {
     Tree::FIELDS[f]
@@ -158,6 +167,14 @@ pub fn has_ratios(file: &[u8]) -> bool
     version_of(file) == Tree::FIRST_VERSION
 }
 
+// Is it of version 3?
+pub fn has_open_bytes(file: &[u8]) -> bool
+    requires { ⌜ headerLength ≤ length (now file) ⌝ }
+    ensures { λ r. ⌜ r ≡ hasOpenBytes (now (file .entry)) ⌝ }
+{
+    version_of(file) == Tree::THIRD_VERSION
+}
+
 // How many bytes a record has.
 pub fn record_length(file: &[u8]) -> usize
     requires { ⌜ headerLength ≤ length (now file) ⌝ }
@@ -165,6 +182,9 @@ pub fn record_length(file: &[u8]) -> usize
 {
     if has_ratios(file) {
         return Tree::RATIO_RECORD;
+    }
+    if has_open_bytes(file) {
+        return Tree::OPEN_RECORD;
     }
     Tree::BYTES_RECORD
 }
@@ -230,6 +250,18 @@ pub fn cachable_in(file: &[u8], size: usize, v: usize) -> units::Flow
         );
     }
     units::Flow(units::Flow::WHOLE * field_in(file, size, Tree::CACHABLE_FIELD, v))
+}
+
+// May a cache stand at v? Only version 3 has records of thirteen bytes, and the others count as open throughout.
+pub fn open_in(file: &[u8], size: usize, v: usize) -> bool
+    requires { ⌜ size ≡ recordLength (now file) ⌝ }
+    requires { ⌜ InFile (now file) v ⌝ }
+    ensures { λ r. ⌜ r ≡ treeOf (now (file .entry)) .isOpen v ⌝ }
+{
+    if size == Tree::OPEN_RECORD {
+        return field_in(file, size, Tree::OPEN_FIELD, v) == 1;
+    }
+    true
 }
 
 // ---- the same of any file

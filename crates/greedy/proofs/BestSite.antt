@@ -1,12 +1,13 @@
 -- The words say what each site saves, so the search finds the site that the greedy rule takes.
-use mathlib.Core.Path.{_≡_}
-use mathlib.Core.Bool.{true, false}
+use mathlib.Core.Path.{_≡_, refl}
+use mathlib.Core.Bool.{Bool, true, false, true≢false, _||_}
 use mathlib.Core.List.{List}
 use Prim.Native.Nat.{ℕ, zero, suc, _*_, _-_, _≤_, _<_}
 use native.Mathlib.Nat.{mul-comm, mul-le-mul}
 use native.Mathlib.Omega.{arith}
 use Rattle.laws.specs.Lists.{has}
 use Rattle.laws.specs.FirstGreatest.{FirstGreatest}
+use Rattle.laws.proofs.Bools.{not-both}
 use Rattle.laws.proofs.FirstGreatest.{search-skips}
 use Rattle.model.specs.File.{Tree, Demand, treeOf, demandOf, mostLength, mostDepth}
 use Rattle.model.specs.Tree.{distance}
@@ -14,7 +15,7 @@ use Rattle.model.specs.Preorder.{Preorder}
 use Rattle.model.proofs.Bounds.{distance-bound}
 use Rattle.node_words.specs.Words.{distanceWord, wordOf}
 use Rattle.node_words.proofs.Words.{room-sound, room-some}
-use Rattle.greedy.specs.Savings.{mostReach, saving}
+use Rattle.greedy.specs.Savings.{mostReach, isClosed, isPassedOver, saving}
 use Rattle.greedy.specs.Words.{servingDistanceWord, reachWord, markedSites, savingFrom, Current, Weighed}
 use Rattle.greedy.proofs.Reaches.{serving-distance-up, serving-distance-near}
 use Rattle.greedy.proofs.Gathered.{reach-bound}
@@ -22,6 +23,15 @@ use Rattle.greedy.proofs.Gathered.{reach-bound}
 -- a flow over how much nearer it is served
 pub saving-here : {far served nearer flow x y z : ℕ} → far ≡ x → served ≡ y → nearer ≡ far - served → flow ≡ z → flow * nearer ≡ z * (x - y)
 saving-here ex ey en ez = rw (ez, en, ex, ey)
+
+-- of two tests, of which one passes
+neither-closed : (a b : Bool) → (a || b) ≡ false → b ≡ false
+neither-closed true b e = absurd (true≢false e)
+neither-closed false b e = e
+
+member-there : (a b : Bool) → b ≡ false → (a || b) ≡ true → a ≡ true
+member-there true b l e = refl
+member-there false b l e = absurd (not-both e l)
 
 -- a member serves itself, so a cache there saves nothing
 saving-of-member : (t : Tree) (d : Demand) → Preorder t → (k : List ℕ) (v : ℕ) → 1 ≤ v → has k v ≡ true → saving t d k v ≡ 0
@@ -50,8 +60,11 @@ module _ {file : List ℕ} {n : ℕ} {s : List ℕ} (now : Current file n s) whe
             omega (arith, mul-le-mul flow far);
       }
 
-  pub search-finds-site : {site most : ℕ} → FirstGreatest (λ _. false) (savingFrom s) n site most
-      → FirstGreatest (has (markedSites n s)) (saving (treeOf file) (demandOf file) (markedSites n s)) n site most
+  pub search-finds-site : {site most : ℕ} → FirstGreatest (isClosed (treeOf file)) (savingFrom s) n site most
+      → FirstGreatest (isPassedOver (treeOf file) (markedSites n s)) (saving (treeOf file) (demandOf file) (markedSites n s)) n site most
   search-finds-site =
-      search-skips (has (markedSites n s)) (savingFrom s) (saving (treeOf file) (demandOf file) (markedSites n s)) n _ _ (λ v _ h. saving-held v h)
-      (λ v h _ m. saving-of-member (treeOf file) (demandOf file) (room-sound (now .stored .room) .preorder) (markedSites n s) v h m)
+      let t = treeOf file in
+      let k = markedSites n s in
+      search-skips (isClosed t) (isPassedOver t k) (savingFrom s) (saving t (demandOf file) k) n _ _ (λ v _ h. saving-held v h)
+      (λ v. neither-closed (has k v) (isClosed t v))
+      (λ v h _ l p. saving-of-member t (demandOf file) (room-sound (now .stored .room) .preorder) k v h (member-there (has k v) (isClosed t v) l p))

@@ -1,6 +1,5 @@
 -- The loop over the budget: the words, the total and both buffers after b steps.
 use mathlib.Core.Path.{_≡_, refl, sym, ap, _∙_}
-use mathlib.Core.Bool.{false}
 use mathlib.Core.List.{List, [], map}
 use Prim.Native.Nat.{ℕ, zero, suc, _+_, _*_, _-_, _≤_, _<_}
 use native.Mathlib.Nat.{add-zero}
@@ -24,12 +23,13 @@ use Rattle.model.proofs.GreedyRuns.{greedy-runs}
 use Rattle.model.proofs.Written.{length-greedy-totals, length-greedy-row}
 use Rattle.node_words.specs.Words.{nodeWords, NodeRoom, Measured}
 use Rattle.node_words.proofs.Words.{room-sound, room-kept}
-use Rattle.greedy.specs.Savings.{saving}
+use Rattle.greedy.specs.Savings.{isClosed, isPassedOver, saving}
 use Rattle.greedy.specs.Words.{servingDistanceWord, markWord, markedSites, savingFrom, Wrote, DistancesStored, Current, Gathers, Prepared, Free, SiteTaken}
 use Rattle.greedy.specs.Run.{GreedyRoom, Filled, GreedyWritten}
 use Rattle.greedy.proofs.EmptySet.{serving-distance-none}
 use Rattle.greedy.proofs.Words.{marks-kept, marked-none, stored-kept}
 use Rattle.greedy.proofs.BestSite.{search-finds-site}
+use Rattle.greedy.proofs.Steps.{not-passed}
 use Rattle.greedy.proofs.Turns.{greedy-begins, found-none, found-node, found-set, found-within, found-total}
 
 -- ---- before the first step
@@ -71,7 +71,7 @@ standing-first {file} now marks e =
     record { current = now; marks = rw none marks; total = rw none e }
 
 module _ {file : List ℕ} {n k : ℕ} {s : List ℕ} {sum b site most : ℕ} (st : Standing file n s sum b) (h : b < k)
-    (finds : FirstGreatest (λ _. false) (savingFrom s) n site most) where
+    (finds : FirstGreatest (isClosed (treeOf file)) (savingFrom s) n site most) where
   abbrev t : Tree
   t = treeOf file
 
@@ -81,10 +81,10 @@ module _ {file : List ℕ} {n k : ℕ} {s : List ℕ} {sum b site most : ℕ} (s
   ok : Sound t d
   ok = room-sound (st .current .stored .room)
 
-  outside : FirstGreatest (has (markedSites n s)) (saving t d (markedSites n s)) n site most
+  outside : FirstGreatest (isPassedOver t (markedSites n s)) (saving t d (markedSites n s)) n site most
   outside = search-finds-site (st .current) finds
 
-  found : FirstGreatest (has (greedySet t d b)) (saving t d (greedySet t d b)) (t .count) site most
+  found : FirstGreatest (isPassedOver t (greedySet t d b)) (saving t d (greedySet t d b)) (t .count) site most
   found = rw (st .marks, st .current .stored .room .count) at outside
 
   -- where no site saves, every later step leaves the total and takes no node
@@ -95,7 +95,7 @@ module _ {file : List ℕ} {n k : ℕ} {s : List ℕ} {sum b site most : ℕ} (s
 
   module _ (saves : 0 < most) where
     pub step-free : Free n site s
-    step-free = let here = outside .held saves in record { site = here .0; below = outside .below; outside = here .1 }
+    step-free = let here = outside .held saves in record { site = here .0; below = outside .below; outside = not-passed (has (markedSites n s) site) (t .isOpen site) (here .1) .1 }
 
     pub step-node : site ≡ getD (greedyNodes t d k) b 0
     step-node = found-node t d k b h (ok .preorder) (ok .part) found saves

@@ -6,7 +6,6 @@ use native.Mathlib.Decide.{decLt}
 use native.Mathlib.Omega.{arith}
 use lib.ListN.{length, take, getD, List·getD-eq-default}
 use lib.Seq.{take-all, take-suc}
-use Rattle.laws.specs.Lists.{has}
 use Rattle.laws.specs.FirstGreatest.{FirstGreatest}
 use Rattle.model.specs.File.{Tree, Demand}
 use Rattle.model.specs.Bill.{whole, cachable, total}
@@ -15,7 +14,7 @@ use Rattle.model.specs.Preorder.{Preorder}
 use Rattle.model.specs.Laws.{Takes, Rests}
 use Rattle.model.proofs.GreedySteps.{only-takes, takes-not-rests}
 use Rattle.model.proofs.GreedyRuns.{greedy-runs, greedy-prefix}
-use Rattle.greedy.specs.Savings.{saving}
+use Rattle.greedy.specs.Savings.{isPassedOver, saving}
 use Rattle.greedy.proofs.Saved.{saving-within-total}
 use Rattle.greedy.proofs.Steps.{search-takes, search-total, search-rests}
 
@@ -70,7 +69,7 @@ module _ (t : Tree) (d : Demand) where
     -- ---- by a search
 
     module _ (pre : Preorder t) (part : (c : ℕ) → cachable d c ≤ whole d c) {site most : ℕ}
-        (found : FirstGreatest (has (greedySet t d b)) (saving t d (greedySet t d b)) (t .count) site most) where
+        (found : FirstGreatest (isPassedOver t (greedySet t d b)) (saving t d (greedySet t d b)) (t .count) site most) where
       -- where no site saves
       pub found-none : most ≡ 0 → (j : ℕ) → b ≤ j → j < k → (0 ≡ getD g j 0) × (greedyTotal t d (suc j) ≡ greedyTotal t d b)
       found-none e j from to =

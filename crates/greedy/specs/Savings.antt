@@ -1,10 +1,10 @@
 -- What a cache at a node would save, and how one pass over the nodes from the last down finds the flow that reaches each before a
 -- site is taken.
-use mathlib.Core.Bool.{Bool}
+use mathlib.Core.Bool.{Bool, not, _||_}
 use mathlib.Core.List.{List, []}
 use Prim.Native.Nat.{ℕ, _+_, _*_, _-_}
 use lib.Dec.{eqb}
-use Rattle.laws.specs.Lists.{range, sum, those}
+use Rattle.laws.specs.Lists.{range, sum, has, those}
 use Rattle.model.specs.File.{Tree, Demand, mostNodes, mostFlow}
 use Rattle.model.specs.Tree.{nodes, distance}
 use Rattle.model.specs.Bill.{thousandths, cachable, serving}
@@ -15,6 +15,14 @@ abbrev pub mostReach : ℕ
 mostReach = mostNodes * (mostFlow * thousandths)
 
 module _ (t : Tree) where
+  -- may no cache stand at v?
+  abbrev pub isClosed : ℕ → Bool
+  isClosed v = not (t .isOpen v)
+
+  -- does a step from K pass over v, a member of K or closed?
+  abbrev pub isPassedOver : List ℕ → ℕ → Bool
+  isPassedOver k v = has k v || isClosed v
+
   -- would a cache at x serve the client at c? So c is at or below x and meets no member of K before x.
   unfoldable pub reaches : List ℕ → ℕ → ℕ → Bool
   reaches k x c = eqb x (serving t (withNode x k) c)

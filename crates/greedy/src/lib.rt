@@ -5,7 +5,7 @@ use units::Distance;
 use units::Flow;
 use units::Total;
 ghost use mathlib.Core.Path.{_≡_};
-ghost use mathlib.Core.Bool.{false, _&&_};
+ghost use mathlib.Core.Bool.{_&&_};
 ghost use mathlib.Core.List.{[]};
 ghost use Prim.Native.Nat.{suc, _+_, _*_, _-_, _≤_, _<_, _^_};
 ghost use lib.Dec.{leb};
@@ -17,6 +17,7 @@ ghost use Rattle.model.specs.Calls.{GreedyCall};
 ghost use Rattle.fields.specs.Table.{InFile};
 ghost use Rattle.tree_file.specs.Checks.{verdictOf};
 ghost use Rattle.node_words.specs.Words.{nodeWords, distanceWord, wordOf, HasNode, NodeRoom, SiteRoom};
+ghost use Rattle.greedy.specs.Savings.{isClosed};
 ghost use Rattle.greedy.specs.Words.{servingDistanceWord, reachWord, markedSites, savingFrom, servedFrom, Wrote, DistancesStored, Current, Free, ServedTo, Serves, PassedFrom, Passes, Gathers, Relieves, SiteTaken, Weighed, Prepared};
 ghost use Rattle.greedy.specs.Run.{GreedyRoom, Filled, GreedyWritten};
 
@@ -28,7 +29,7 @@ const REACH: usize = 2;
 
 const MARK: usize = 3;
 
-// What a step finds: the node that saves most as a cache and how much it saves, both 0 if none saves.
+// What a step finds: the open node that saves most as a cache and how much it saves, both 0 if none saves.
 struct Found {
     site: usize,
     saving: Total,
@@ -127,19 +128,23 @@ fn saving_of(words: &[u64], v: usize) -> Total
     Flow(node_words::word(words, v, REACH)).over(nearer)
 }
 
-// The node that saves most, the smallest number on a tie.
-fn search(n: usize, words: &[u64]) -> Found
+// The open node that saves most, the smallest number on a tie.
+fn search(file: &[u8], n: usize, words: &[u64]) -> Found
+    requires { ⌜ NodeRoom (now file) n (now words) ⌝ }
     requires { ⌜ Weighed n (now words) ⌝ }
-    ensures { λ r. ⌜ FirstGreatest (λ _. false) (savingFrom (now (words .entry))) n (r .site) (r .saving .0) ⌝ }
+    ensures { λ r. ⌜ FirstGreatest (isClosed (treeOf (now (file .entry)))) (savingFrom (now (words .entry))) n (r .site) (r .saving .0) ⌝ }
 {
+    let size = fields::record_length(file);
     let mut site = 0;
     let mut most = Total::ZERO;
     let mut v = 1;
     while v < n {
         let saving = saving_of(words, v);
         if most.0 < saving.0 {
-            site = v;
-            most = saving;
+            if fields::open_in(file, size, v) {
+                site = v;
+                most = saving;
+            }
         }
         v += 1;
     }
@@ -219,7 +224,7 @@ fn rest(b: usize, k: usize, total: Total, totals: &mut [u64], nodes: &mut [u16])
     }
 }
 
-// Each of k steps takes the node that saves most. If none saves, none will in a later step.
+// Each of k steps takes the open node that saves most. If none saves, none will in a later step.
 fn take_sites(
     file: &[u8],
     n: usize,
@@ -236,7 +241,7 @@ fn take_sites(
     totals[0] = total.0;
     let mut b = 0;
     while b < k {
-        let found = search(n, words);
+        let found = search(file, n, words);
         if found.saving.0 == 0 {
             rest(b, k, total, totals, nodes);
             return;

@@ -6,11 +6,10 @@ use Prim.Native.Nat.{ℕ, _≤_, _<_}
 use lib.ListN.{length, drop, set}
 use borrow.Author.Tests.{le-leb, lt-leb}
 use Rattle.laws.proofs.Stores.{sets-front}
-use Rattle.model.specs.File.{treeOf, countOf}
-use Rattle.model.specs.Rules.{Verdict, passed, broken, ask, _then_, fileVerdict, ascends, askSet}
+use Rattle.model.specs.File.{treeOf}
+use Rattle.model.specs.Rules.{Verdict, passed, broken, ask, _then_, fileVerdict, isSet, askSet}
 use Rattle.model.specs.Calls.{answered, refused, after, BillMemory, billVerdict, BillCall}
 use Rattle.model.specs.Hosts.{HostBillMemory, hostBillVerdict, HostBillCall}
-use Rattle.model.proofs.Ascending.{set-told}
 use Rattle.model.proofs.Verdicts.{answered-passed, refused-broken}
 
 -- a verdict that ends in a refusal is one
@@ -25,9 +24,8 @@ module _ (file k : List ℕ) (rest : Verdict) where
   pub file-refused : {q i : ℕ} → broken q i ≡ fileVerdict file → broken q i ≡ (fileVerdict file then askSet file k then rest)
   file-refused e = rw (← e)
 
-  pub set-asked : {n : ℕ} {b : Bool} → passed ≡ fileVerdict file → n ≡ countOf file → ascends 0 n k ≡ b
-      → (ask 12 0 b then rest) ≡ (fileVerdict file then askSet file k then rest)
-  set-asked ok nodes asked = rw (← ok, set-told (treeOf file) k nodes asked)
+  pub set-asked : {b : Bool} → passed ≡ fileVerdict file → isSet (treeOf file) k ≡ b → (ask 12 0 b then rest) ≡ (fileVerdict file then askSet file k then rest)
+  set-asked ok asked = rw (← ok, asked)
 
 -- ---- the call
 

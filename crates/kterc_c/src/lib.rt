@@ -44,7 +44,7 @@ fn no_room(file: &[u8], set: &[u16]) -> Ruling
     let ruling = tree_file::file_ruling(file);
     match ruling {
         Ruling::Passed => {
-            if !placement::is_set(set, fields::count_of(file)) {
+            if !placement::is_set(file, fields::count_of(file), set) {
                 return Ruling::Broken(12, 0);
             }
             Ruling::Broken(14, 0)

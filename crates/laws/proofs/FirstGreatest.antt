@@ -47,19 +47,20 @@ module _ (skipped : ℕ → Bool) (f : ℕ → ℕ) where
           earlierLess = s .earlierLess;
         }
 
--- a search that skips none, where the skipped have no value
-pub search-skips : (skipped : ℕ → Bool) (f g : ℕ → ℕ) (v best most : ℕ) → ((u : ℕ) → 1 ≤ u → u < v → f u ≡ g u)
-    → ((u : ℕ) → 1 ≤ u → u < v → skipped u ≡ true → g u ≡ 0) → FirstGreatest (λ _. false) f v best most → FirstGreatest skipped g v best most
-search-skips skipped f g v best most same none s =
+-- a search that skips fewer, where the others that are skipped have no value
+pub search-skips : (fewer skipped : ℕ → Bool) (f g : ℕ → ℕ) (v best most : ℕ) → ((u : ℕ) → 1 ≤ u → u < v → f u ≡ g u)
+    → ((u : ℕ) → skipped u ≡ false → fewer u ≡ false) → ((u : ℕ) → 1 ≤ u → u < v → fewer u ≡ false → skipped u ≡ true → g u ≡ 0)
+    → FirstGreatest fewer f v best most → FirstGreatest skipped g v best most
+search-skips fewer skipped f g v best most same kept none s =
     record {
       below = s .below;
       held = λ h. let b = s .held h in
           let e = same best (b .0) (s .below) in (
             b .0,
-            by-test (λ x. x ≡ false) (skipped best) (λ m. absurd (omega (arith, none best (b .0) (s .below) m, e, b .2))) (λ _. refl),
+            by-test (λ x. x ≡ false) (skipped best) (λ m. absurd (omega (arith, none best (b .0) (s .below) (b .1) m, e, b .2))) (λ _. refl),
             sym e ∙ b .2,
           );
       idle = s .idle;
-      noneMore = λ u a b _. omega (arith, same u a b, s .noneMore u a b refl);
-      earlierLess = λ u a b _. omega (arith, same u a (omega (arith, s .below)), s .earlierLess u a b refl);
+      noneMore = λ u a b l. omega (arith, same u a b, s .noneMore u a b (kept u l));
+      earlierLess = λ u a b l. omega (arith, same u a (omega (arith, s .below)), s .earlierLess u a b (kept u l));
     }

@@ -2,7 +2,7 @@
 use mathlib.Core.Path.{_≡_, refl, sym, ap, _∙_}
 use mathlib.Core.Bool.{Bool, true, false, cond, _&&_, _||_, false≢true, or-true, and-false, and-or-distrib-left}
 use mathlib.Core.List.{List, [], _∷_, _++_, map, List·Memᴰ, List·Memᴰ·head, List·Memᴰ·tail, List·Memᴰ·not-nil, List·Memᴰ·cases-cons}
-use mathlib.Core.Logic.{inl, inr}
+use mathlib.Core.Logic.{_↔_, inl, inr}
 use Prim.Native.Nat.{ℕ, zero, suc, _+_, _-_, _≤_, _<_, max}
 use native.Mathlib.Nat.{add-zero}
 use native.Mathlib.Decide.{ℕ-discrete}
@@ -10,8 +10,8 @@ use native.Mathlib.Omega.{arith}
 use lib.Dec.{eqb}
 use lib.ListN.{length, getD, length-map, replicate}
 use borrow.Author.Tests.{eq-eqb, ne-eqb, eqb-true}
-use Rattle.laws.specs.Lists.{range, greatest, has, those}
-use Rattle.laws.proofs.Bools.{by-test, not-both}
+use Rattle.laws.specs.Lists.{range, greatest, has, allOf, those}
+use Rattle.laws.proofs.Bools.{by-test, not-both, both}
 
 -- ---- membership
 
@@ -133,6 +133,22 @@ greatest-within f most [] h = omega arith
 greatest-within f most (x ∷ l) h = omega (arith, h x, greatest-within f most l h)
 
 -- ---- those that pass a test
+
+-- all of a list do just where each member does
+pub all-said : (p : ℕ → Bool) (l : List ℕ) → allOf p l ≡ true ↔ ((v : ℕ) → has l v ≡ true → p v ≡ true)
+unfolding allOf
+all-said p [] = (λ _ v m. absurd (has-none v m), λ _. refl)
+all-said p (x ∷ xs) =
+    let rest = all-said p xs in (
+      λ h v. let parts = both (p x) (allOf p xs) h in has-cases (p v ≡ true) x v xs (λ e. rw e at (parts .0)) (rest .0 (parts .1) v),
+      λ h. rw (h x (has-head x xs)) (rest .1 (λ v m. h v (has-tail x v xs m))),
+    )
+
+-- and then those of it are the whole list
+pub those-all : (p : ℕ → Bool) (l : List ℕ) → allOf p l ≡ true → those p l ≡ l
+unfolding allOf those
+those-all p [] h = refl
+those-all p (x ∷ xs) h = let parts = both (p x) (allOf p xs) h in rw (parts .0) (ap (λ r. x ∷ r) (those-all p xs (parts .1)))
 
 -- where x is v, a test of the one is a test of the other
 test-where-same : (p : ℕ → Bool) (x v : ℕ) → (p v && eqb x v) ≡ (p x && eqb x v)

@@ -35,6 +35,11 @@ unfoldable pub anyOf : (ℕ → Bool) → List ℕ → Bool
 anyOf p [] = false
 anyOf p (x ∷ xs) = p x || anyOf p xs
 
+-- do all of the list pass the test?
+unfoldable pub allOf : (ℕ → Bool) → List ℕ → Bool
+allOf p [] = true
+allOf p (x ∷ xs) = p x && allOf p xs
+
 -- those that pass the test, in their order
 unfoldable pub those : (ℕ → Bool) → List ℕ → List ℕ
 those p [] = []

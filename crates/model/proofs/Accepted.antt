@@ -8,12 +8,12 @@ use native.Mathlib.Decide.{decLt}
 use native.Mathlib.Omega.{arith}
 use lib.Dec.{leb, eqb}
 use lib.ListN.{length, List·getD-eq-default}
-use borrow.Author.Tests.{leb-true, eqb-true}
+use borrow.Author.Tests.{leb-true, eqb-true, ne-eqb}
 use Rattle.laws.specs.Lists.{same}
-use Rattle.laws.proofs.Bools.{by-test, both}
-use Rattle.model.specs.File.{Field, ratio, bytes, number, fieldOf, hasRatios, shareOf, treeOf, demandOf, firstVersion, newestVersion, headerLength, versionOf, countOf, budgetOf, recordLength, recordAt, mostNodes, mostBudget, mostDepth, mostLength, mostFlow, parentField, lengthField, flowField, hitField, cachableField}
+use Rattle.laws.proofs.Bools.{by-test, not-both, both}
+use Rattle.model.specs.File.{Field, ratio, bytes, number, fieldOf, hasRatios, hasOpenBytes, shareOf, treeOf, demandOf, firstVersion, thirdVersion, headerLength, versionOf, countOf, budgetOf, recordLength, recordAt, mostNodes, mostBudget, mostDepth, mostLength, mostFlow, parentField, lengthField, flowField, hitField, cachableField, openField, openOf}
 use Rattle.model.specs.Tree.{depth}
-use Rattle.model.specs.Rules.{passed, ask, parentHolds, lengthHolds, askShare, recordVerdict, recordsVerdict, marked, fileVerdict}
+use Rattle.model.specs.Rules.{passed, ask, parentHolds, lengthHolds, askShare, askOpen, recordVerdict, recordsVerdict, marked, fileVerdict}
 use Rattle.model.specs.Preorder.{Preorder}
 use Rattle.model.specs.Accepted.{HeaderHolds, RecordHolds, Sound}
 use Rattle.model.proofs.Verdicts.{ask-passed, then-passed}
@@ -27,15 +27,15 @@ unfolding fileVerdict
 accepted-header s e =
     let e1 = then-passed (ask 1 0 (leb headerLength (length s))) _ e in
     let e2 = then-passed (ask 2 0 (marked s)) _ (e1 .1) in
-    let e3 = then-passed (ask 3 0 (leb firstVersion (versionOf s) && leb (versionOf s) newestVersion)) _ (e2 .1) in
+    let e3 = then-passed (ask 3 0 (leb firstVersion (versionOf s) && leb (versionOf s) thirdVersion)) _ (e2 .1) in
     let e4 = then-passed (ask 4 0 (leb 1 (countOf s) && leb (countOf s) mostNodes)) _ (e3 .1) in
     let e5 = then-passed (ask 5 0 (leb (budgetOf s) mostBudget)) _ (e4 .1) in
     let e6 = then-passed (ask 6 0 (eqb (length s) (recordAt s (countOf s)))) _ (e5 .1) in
-    let w = both (leb firstVersion (versionOf s)) (leb (versionOf s) newestVersion) (ask-passed 3 0 _ (e3 .0)) in
+    let w = both (leb firstVersion (versionOf s)) (leb (versionOf s) thirdVersion) (ask-passed 3 0 _ (e3 .0)) in
     let n = both (leb 1 (countOf s)) (leb (countOf s) mostNodes) (ask-passed 4 0 _ (e4 .0)) in
     record {
       first = leb-true firstVersion (versionOf s) (w .0);
-      newest = leb-true (versionOf s) newestVersion (w .1);
+      newest = leb-true (versionOf s) thirdVersion (w .1);
       some = leb-true 1 (countOf s) (n .0);
       few = leb-true (countOf s) mostNodes (n .1);
       budget = leb-true (budgetOf s) mostBudget (ask-passed 5 0 _ (e5 .0));
@@ -45,7 +45,7 @@ accepted-header s e =
 
 -- ---- the records
 
--- rules 7 to 11 and 17 hold of every record
+-- the rules of a record hold of every one
 each-record : (s : List ℕ) (n i : ℕ) → recordsVerdict s n ≡ passed → i < n → recordVerdict s i ≡ passed
 unfolding recordsVerdict
 each-record s zero i e h = absurd (omega arith)
@@ -70,34 +70,75 @@ record-holds s i e =
       shallow = leb-true (depth t i) mostDepth (ask-passed 8 i _ (e8 .0));
       linkLength = ask-passed 9 i _ (e9 .0);
       flow = leb-true (d .flow i) mostFlow (ask-passed 10 i _ (e10 .0));
-      share = e10 .1;
+      share = then-passed (askShare i (d .flow i) (d .share i)) (askOpen s i) (e10 .1) .0;
     }
 
 -- ---- where records stand
 
--- 10 bytes in version 1, and else 12
-pub ratio-record : (s : List ℕ) → hasRatios s ≡ true → recordLength s ≡ 10
-unfolding recordLength
-ratio-record s e = rw e
+module _ (s : List ℕ) where
+  -- 10 bytes in version 1, 13 in version 3, and else 12
+  pub ratio-record : hasRatios s ≡ true → recordLength s ≡ 10
+  unfolding recordLength
+  ratio-record e = rw e
 
-pub bytes-record : (s : List ℕ) → hasRatios s ≡ false → recordLength s ≡ 12
-unfolding recordLength
-bytes-record s e = rw e
+  pub bytes-record : hasRatios s ≡ false → hasOpenBytes s ≡ false → recordLength s ≡ 12
+  unfolding recordLength
+  bytes-record e f = rw (e, f)
 
--- and the other way round
-pub ratio-told : (s : List ℕ) → recordLength s ≡ 10 → hasRatios s ≡ true
-ratio-told s h = by-test (λ b. hasRatios s ≡ b → b ≡ true) (hasRatios s) (λ _ _. refl) (λ _ e. absurd (omega (arith, bytes-record s e))) refl
+  pub open-record : hasRatios s ≡ false → hasOpenBytes s ≡ true → recordLength s ≡ 13
+  unfolding recordLength
+  open-record e f = rw (e, f)
 
-pub bytes-told : (s : List ℕ) → (recordLength s ≡ 10 → ⊥) → hasRatios s ≡ false
-bytes-told s h = by-test (λ b. hasRatios s ≡ b → b ≡ false) (hasRatios s) (λ _ e. absurd (h (ratio-record s e))) (λ _ _. refl) refl
+  -- a fact by these three
+  by-record : (P : Type 0) → (hasRatios s ≡ true → recordLength s ≡ 10 → P)
+      → (hasRatios s ≡ false → hasOpenBytes s ≡ false → recordLength s ≡ 12 → P)
+      → (hasRatios s ≡ false → hasOpenBytes s ≡ true → recordLength s ≡ 13 → P) → P
+  by-record P ten twelve thirteen =
+      by-test (λ b. hasRatios s ≡ b → P) (hasRatios s) (λ _ e. ten e (ratio-record e))
+      (λ _ e. by-test (λ b. hasOpenBytes s ≡ b → P) (hasOpenBytes s) (λ _ f. thirteen e f (open-record e f)) (λ _ f. twelve e f (bytes-record e f)) refl) refl
 
-pub record-bounds : (s : List ℕ) → (10 ≤ recordLength s) × (recordLength s ≤ 12)
-record-bounds s =
-    by-test (λ b. hasRatios s ≡ b → (10 ≤ recordLength s) × (recordLength s ≤ 12)) (hasRatios s)
-    (λ _ e. (omega (arith, ratio-record s e), omega (arith, ratio-record s e))) (λ _ e. (omega (arith, bytes-record s e), omega (arith, bytes-record s e))) refl
+  -- version 1 has no last byte
+  pub open-no-ratios : hasOpenBytes s ≡ true → hasRatios s ≡ false
+  unfolding hasOpenBytes hasRatios
+  open-no-ratios e = ne-eqb (versionOf s) firstVersion (λ f. omega (arith, eqb-true (versionOf s) thirdVersion e))
 
-pub records-bound : (s : List ℕ) {r v : ℕ} → r ≡ recordLength s → v ≤ mostNodes → r * v ≤ 12 * mostNodes
-records-bound s e h = rw e (mul-le-mul (record-bounds s .1) h)
+  pub ratio-all-open : hasRatios s ≡ true → hasOpenBytes s ≡ false
+  unfolding hasOpenBytes hasRatios
+  ratio-all-open e = ne-eqb (versionOf s) thirdVersion (λ f. omega (arith, eqb-true (versionOf s) firstVersion e))
+
+  -- and the other way round
+  pub ratio-told : recordLength s ≡ 10 → hasRatios s ≡ true
+  ratio-told h = by-record (hasRatios s ≡ true) (λ e _. e) (λ _ _ r. absurd (omega arith)) (λ _ _ r. absurd (omega arith))
+
+  pub bytes-told : (recordLength s ≡ 10 → ⊥) → hasRatios s ≡ false
+  bytes-told n = by-record (hasRatios s ≡ false) (λ _ r. absurd (n r)) (λ e _ _. e) (λ e _ _. e)
+
+  pub open-told : recordLength s ≡ 13 → hasOpenBytes s ≡ true
+  open-told h = by-record (hasOpenBytes s ≡ true) (λ _ r. absurd (omega arith)) (λ _ _ r. absurd (omega arith)) (λ _ f _. f)
+
+  pub all-open-told : (recordLength s ≡ 13 → ⊥) → hasOpenBytes s ≡ false
+  all-open-told n =
+      by-test (λ b. hasOpenBytes s ≡ b → b ≡ false) (hasOpenBytes s) (λ _ f. absurd (n (open-record (open-no-ratios f) f))) (λ _ _. refl) refl
+
+  pub record-bounds : (10 ≤ recordLength s) × (recordLength s ≤ 13)
+  record-bounds =
+      by-record ((10 ≤ recordLength s) × (recordLength s ≤ 13)) (λ _ r. (omega arith, omega arith)) (λ _ _ r. (omega arith, omega arith))
+      (λ _ _ r. (omega arith, omega arith))
+
+  pub longer-record : hasRatios s ≡ false → 12 ≤ recordLength s
+  longer-record none = by-record (12 ≤ recordLength s) (λ e _. absurd (not-both e none)) (λ _ _ r. omega arith) (λ _ _ r. omega arith)
+
+  pub records-bound : {r v : ℕ} → r ≡ recordLength s → v ≤ mostNodes → r * v ≤ 13 * mostNodes
+  records-bound e h = rw e (mul-le-mul (record-bounds .1) h)
+
+  -- a node is open where its last byte is 1, and without such bytes every node is
+  pub open-by-byte : (v : ℕ) → hasOpenBytes s ≡ true → treeOf s .isOpen v ≡ eqb (fieldOf s openField v) 1
+  unfolding openOf
+  open-by-byte v e = rw e
+
+  pub open-throughout : (v : ℕ) → hasOpenBytes s ≡ false → treeOf s .isOpen v ≡ true
+  unfolding openOf
+  open-throughout v e = rw e
 
 -- a record ends before a later one begins
 pub record-before : (s : List ℕ) {i j : ℕ} → i < j → recordAt s i + recordLength s ≤ recordAt s j

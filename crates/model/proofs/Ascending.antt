@@ -1,6 +1,6 @@
 -- Laws of ascending lists: how they are made, their members, and that the members tell the list; and of sets.
 use mathlib.Core.Path.{_≡_, refl, sym, _∙_}
-use mathlib.Core.Bool.{Bool, true, cond, _&&_}
+use mathlib.Core.Bool.{Bool, true, false, cond, _&&_}
 use mathlib.Core.List.{List, [], _∷_, cons-eq-cons}
 use mathlib.Core.Logic.{_↔_, _⊎_, inl, inr}
 use Prim.Native.Nat.{ℕ, zero, suc, _-_, _≤_, _<_}
@@ -8,9 +8,9 @@ use native.Mathlib.Decide.{ℕ-discrete}
 use native.Mathlib.Omega.{arith}
 use lib.Dec.{ltb}
 use borrow.Author.Tests.{ltb-true, lt-ltb}
-use Rattle.laws.specs.Lists.{range, has, those}
+use Rattle.laws.specs.Lists.{range, has, allOf, those}
 use Rattle.laws.proofs.Bools.{by-test, both}
-use Rattle.laws.proofs.Lists.{has-cases, has-none, has-head, has-other}
+use Rattle.laws.proofs.Lists.{has-cases, has-none, has-head, has-other, all-said}
 use Rattle.model.specs.File.{Tree}
 use Rattle.model.specs.Rules.{ascends, isSet}
 
@@ -97,17 +97,26 @@ module _ (n : ℕ) where
 -- ---- sets
 
 module _ (t : Tree) (k : List ℕ) where
-  pub set-is : isSet t k ≡ ascends 0 (t .count) k
+  -- a list that ascends below n, each of its nodes open
+  pub set-said : isSet t k ≡ true ↔ ((ascends 0 (t .count) k ≡ true) × ((v : ℕ) → has k v ≡ true → t .isOpen v ≡ true))
   unfolding isSet
-  set-is = refl
+  set-said = (
+    λ h. let parts = both (ascends 0 (t .count) k) (allOf (t .isOpen) k) h in (parts .0, all-said (t .isOpen) k .0 (parts .1)),
+    λ h. rw (h .0) (all-said (t .isOpen) k .1 (h .1)),
+  )
 
   pub set-ascends : isSet t k ≡ true → ascends 0 (t .count) k ≡ true
-  set-ascends h = rw set-is at h
+  set-ascends h = set-said .0 h .0
 
-  -- by the answer to whether the list ascends below n
-  pub set-told : {n : ℕ} {b : Bool} → n ≡ t .count → ascends 0 n k ≡ b → isSet t k ≡ b
-  set-told e h = set-is ∙ (rw e at h)
+  -- by whether it ascends below n, and then by whether each of its nodes is open
+  pub not-ascending : {n : ℕ} → n ≡ t .count → ascends 0 n k ≡ false → isSet t k ≡ false
+  unfolding isSet
+  not-ascending e h = rw (← e, h)
+
+  pub set-by-open : {n : ℕ} → n ≡ t .count → ascends 0 n k ≡ true → isSet t k ≡ allOf (t .isOpen) k
+  unfolding isSet
+  set-by-open e h = rw (← e, h)
 
 pub empty-is-set : (t : Tree) → isSet t [] ≡ true
-unfolding ascends
-empty-is-set t = set-is t []
+unfolding isSet ascends allOf
+empty-is-set t = refl

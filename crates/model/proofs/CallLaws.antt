@@ -12,22 +12,42 @@ use lib.Seq.{getD-drop}
 use borrow.Author.Tests.{leb-true, le-leb, ltb-true}
 use Rattle.laws.proofs.Bools.{both}
 use Rattle.model.specs.File.{Tree, Demand, treeOf, demandOf}
-use Rattle.model.specs.Rules.{Verdict, passed, scratchWords, longEnough}
+use Rattle.model.specs.Rules.{Verdict, passed, _then_, fileVerdict, isSet, askSet, scratchWords, longEnough}
 use Rattle.model.specs.Bill.{total, linkTotal}
 use Rattle.model.specs.Ties.{ranksBefore}
 use Rattle.model.specs.Plan.{plan, planTotal}
 use Rattle.model.specs.Greedy.{greedyTotal}
-use Rattle.model.specs.Calls.{ScratchAfter, Winner, named, first, second, rankVerdict, ranking, planBuffersLong, greedyBuffersLong}
+use Rattle.model.specs.Calls.{ScratchAfter, Winner, named, first, second, BillMemory, billVerdict, rankVerdict, ranking, planBuffersLong, greedyBuffersLong}
 use Rattle.model.specs.Report.{HoldsOptimum}
-use Rattle.model.specs.Hosts.{codeUnit, codeOf}
+use Rattle.model.specs.Hosts.{codeUnit, codeOf, HostBillMemory, hostBillVerdict}
 use Rattle.model.specs.Laws.{RanksFirst}
 use Rattle.model.specs.CallLaws.{RankingSaid, CodeSaid, StaysFrom, CallsLawful}
-use Rattle.model.proofs.Verdicts.{answered-passed, refused-broken}
+use Rattle.model.proofs.Verdicts.{ask-passed, then-passed, answered-passed, refused-broken}
 use Rattle.model.proofs.Order.{smaller-said}
 use Rattle.model.proofs.Plans.{only-plan}
 use Rattle.model.proofs.Codes.{Numbered, code-reads, code-none, bill-numbered, plan-numbered, greedy-numbered, report-numbered}
 use Rattle.model.proofs.Decimals.{decimal-reads}
 use Rattle.model.proofs.Written.{length-serving-nodes, length-link-loads, length-plan-totals, length-plan-rows, length-greedy-totals, length-greedy-row}
+
+-- ---- rule 12, right after the rules about the file
+
+module _ (file set : List ℕ) where
+  set-asked : (rest : Verdict) → (fileVerdict file then askSet file set then rest) ≡ passed → (isSet (treeOf file) set ≡ true) × (rest ≡ passed)
+  set-asked rest h =
+      let asked = then-passed (askSet file set) rest (then-passed (fileVerdict file) _ h .1) in
+      (ask-passed 12 0 (isSet (treeOf file) set) (asked .0), asked .1)
+
+  billed-is-set : (memory : BillMemory) → billVerdict file set memory ≡ passed → isSet (treeOf file) set ≡ true
+  unfolding billVerdict
+  billed-is-set memory h = set-asked _ h .0
+
+  host-billed-is-set : (memory : HostBillMemory) → hostBillVerdict file set memory ≡ passed → isSet (treeOf file) set ≡ true
+  unfolding hostBillVerdict
+  host-billed-is-set memory h = set-asked _ h .0
+
+ranked-are-sets : (file k l : List ℕ) → rankVerdict file k l ≡ passed → (isSet (treeOf file) k ≡ true) × (isSet (treeOf file) l ≡ true)
+unfolding rankVerdict
+ranked-are-sets file k l h = let asked = set-asked file k (askSet file l) h in (asked .0, ask-passed 12 0 (isSet (treeOf file) l) (asked .1))
 
 -- ---- the ranking
 
@@ -126,6 +146,9 @@ pub calls-lawful : (file : List ℕ) → CallsLawful file
 calls-lawful file =
     record {
       rankings = ranking-said file;
+      billedIsSet = billed-is-set file;
+      hostBilledIsSet = host-billed-is-set file;
+      rankedAreSets = ranked-are-sets file;
       billCode = λ set memory. code-said _ (bill-numbered file set memory);
       planCode = λ memory. code-said _ (plan-numbered file memory);
       greedyCode = λ memory. code-said _ (greedy-numbered file memory);

@@ -2,7 +2,7 @@
 use lib.Dec.{T}
 use mathlib.Core.List.{flatMap}
 use Rattle.laws.specs.Lists.{range, sum, least, greatest, has, anyOf, those, howMany, same}
-use Rattle.model.specs.File.{number, hasRatios, recordLength, fieldOf, shareOf}
+use Rattle.model.specs.File.{number, hasRatios, hasOpenBytes, recordLength, fieldOf, openOf, shareOf}
 use Rattle.model.specs.Bytes.{bytesOf, headerBytes, recordOf}
 use Rattle.model.specs.Tree.{climb, route, atOrBelow, depth, height, distance}
 use Rattle.model.specs.Rules.{parentHolds, lengthHolds, recordVerdict, recordsVerdict, marked, fileVerdict, accepted}
@@ -14,5 +14,5 @@ use Rattle.model.specs.Report.{digits, decimal, line, reportText, verdic
 use Rattle.model.specs.Cases.{treeA, siblings, chain, serverAlone, twoLines, caseHolds, every, cases}
 
 pub cases-hold : T (every cases)
-unfolding every caseHolds cases bytesOf headerBytes recordOf treeA siblings chain serverAlone twoLines range sum least greatest has anyOf those howMany same flatMap number hasRatios recordLength fieldOf shareOf climb route atOrBelow depth height distance parentHolds lengthHolds recordVerdict recordsVerdict marked fileVerdict accepted price cost total upTo clientLoad linkLoad smallerFirst members visits tiesBefore ranksBefore setsOf firstOf plan withNodes stepOver takenFrom digits decimal line reportText verdictWithin textWithin
+unfolding every caseHolds cases bytesOf headerBytes recordOf treeA siblings chain serverAlone twoLines range sum least greatest has anyOf those howMany same flatMap number hasRatios hasOpenBytes recordLength fieldOf openOf shareOf climb route atOrBelow depth height distance parentHolds lengthHolds recordVerdict recordsVerdict marked fileVerdict accepted price cost total upTo clientLoad linkLoad smallerFirst members visits tiesBefore ranksBefore setsOf firstOf plan withNodes stepOver takenFrom digits decimal line reportText verdictWithin textWithin
 cases-hold = tt

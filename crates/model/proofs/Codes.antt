@@ -1,14 +1,14 @@
 -- A host reads the whole verdict from its code: 0 just where no rule is broken, else the number and the record.
 use mathlib.Core.Path.{_≡_, refl, sym}
-use mathlib.Core.Bool.{Bool, true, false, _&&_}
+use mathlib.Core.Bool.{Bool, true, false, cond, _&&_}
 use mathlib.Core.List.{List}
 use Prim.Native.Nat.{ℕ, zero, suc, _/_, _%_, _<_}
 use native.Mathlib.Omega.{arith}
 use lib.Dec.{leb, ltb}
 use borrow.Author.Tests.{ltb-true}
-use Rattle.laws.proofs.Bools.{both}
-use Rattle.model.specs.File.{Share, ratio, bytes, mostHit}
-use Rattle.model.specs.Rules.{Verdict, passed, broken, ask, _then_, askShare, recordVerdict, recordsVerdict, fileVerdict}
+use Rattle.laws.proofs.Bools.{by-test, both}
+use Rattle.model.specs.File.{Share, ratio, bytes, mostHit, hasOpenBytes, openField, fieldOf}
+use Rattle.model.specs.Rules.{Verdict, passed, broken, ask, _then_, askShare, askOpen, recordVerdict, recordsVerdict, fileVerdict}
 use Rattle.model.specs.Calls.{PlanMemory, planVerdict, GreedyMemory, greedyVerdict}
 use Rattle.model.specs.Report.{ReportMemory, reportVerdict}
 use Rattle.model.specs.Hosts.{codeUnit, codeOf, HostBillMemory, hostBillVerdict}
@@ -33,21 +33,29 @@ both-numbered : (a b : Verdict) → Numbered a → Numbered b → Numbered (a th
 both-numbered passed b h g = g
 both-numbered (broken q i) b h g = h
 
+passed-numbered : Numbered passed
+passed-numbered = record { byte = λ p j e. absurd (broken≢passed (sym e)) }
+
 ask-numbered : (q i : ℕ) (b : Bool) → isByte q ≡ true → Numbered (ask q i b)
-ask-numbered q i true h = record { byte = λ p j e. absurd (broken≢passed (sym e)) }
+ask-numbered q i true h = passed-numbered
 ask-numbered q i false h = record { byte = λ p j e. cc }
 
 share-numbered : (i f : ℕ) (s : Share) → Numbered (askShare i f s)
 share-numbered i f (ratio p) = ask-numbered 11 i (leb p mostHit) refl
 share-numbered i f (bytes b) = ask-numbered 17 i (leb b f) refl
 
+open-numbered : (file : List ℕ) (i : ℕ) → Numbered (askOpen file i)
+open-numbered file i =
+    let holds = leb (fieldOf file openField i) (openField .most) in
+    by-test (λ b. Numbered (cond b (ask 24 i holds) passed)) (hasOpenBytes file) (λ _. ask-numbered 24 i holds refl) (λ _. passed-numbered)
+
 record-numbered : (file : List ℕ) (i : ℕ) → Numbered (recordVerdict file i)
 unfolding recordVerdict
-record-numbered file i = search (both-numbered, ask-numbered, share-numbered)
+record-numbered file i = search (both-numbered, ask-numbered, share-numbered, open-numbered) depth 8
 
 records-numbered : (file : List ℕ) (n : ℕ) → Numbered (recordsVerdict file n)
 unfolding recordsVerdict
-records-numbered file zero = record { byte = λ p j e. absurd (broken≢passed (sym e)) }
+records-numbered file zero = passed-numbered
 records-numbered file (suc i) = both-numbered _ _ (records-numbered file i) (record-numbered file i)
 
 file-numbered : (file : List ℕ) → Numbered (fileVerdict file)

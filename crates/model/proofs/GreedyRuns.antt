@@ -48,7 +48,7 @@ module _ (t : Tree) (d : Demand) where
   taken-is-set k zero h = h
   taken-is-set k (suc b) h =
       taken-cases (λ g. isSet t (withNodes k g) ≡ true) k b (λ _. h)
-      (λ v p. taken-is-set (withNode v k) b (with-node-is-set t v k (p .site .0) (p .site .1) (p .outside) h))
+      (λ v p. taken-is-set (withNode v k) b (with-node-is-set t v k (p .site .0) (p .site .1) (p .isOpen) (p .outside) h))
 
   -- ---- runs from any set
 

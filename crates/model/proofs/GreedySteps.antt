@@ -1,5 +1,5 @@
 -- Laws of one step of the greedy rule: the node that it takes, or that no node lowers the total.
-use mathlib.Core.Path.{_≡_}
+use mathlib.Core.Path.{_≡_, sym, _∙_}
 use mathlib.Core.Bool.{true, false, cond, not}
 use mathlib.Core.List.{List, [], _∷_}
 use Prim.Native.Nat.{ℕ, _-_, _≤_, _<_}
@@ -13,7 +13,7 @@ use Rattle.laws.proofs.Bools.{by-test, both}
 use Rattle.laws.proofs.Lists.{has-head, has-tail, has-none, in-range, has-those}
 use Rattle.laws.proofs.FirstLeast.{no-later-self, no-later-smaller, first-least-one, first-least-two}
 use Rattle.model.specs.File.{Tree, Demand}
-use Rattle.model.specs.Tree.{sites}
+use Rattle.model.specs.Tree.{sites, openSites}
 use Rattle.model.specs.Rules.{ascends}
 use Rattle.model.specs.Bill.{total}
 use Rattle.model.specs.Greedy.{Step, stops, takes, outside, totalWith, leastNode, stepOver}
@@ -21,16 +21,21 @@ use Rattle.model.specs.Laws.{Takes, Rests}
 use Rattle.model.proofs.Ascending.{ascends-cons, ascends-bounds, ascends-lower, ascends-range, ascends-those}
 
 module _ (t : Tree) (d : Demand) where
-  -- ---- the nodes outside a set
+  -- ---- the open nodes outside a set
 
   outside-ascends : (k : List ℕ) → ascends 0 (t .count) (outside t k) ≡ true
-  outside-ascends k = ascends-those (t .count) _ 0 (sites t) (ascends-range (t .count) 0 (t .count - 1) (omega arith))
+  outside-ascends k =
+      ascends-those (t .count) _ 0 (openSites t) (ascends-those (t .count) _ 0 (sites t) (ascends-range (t .count) 0 (t .count - 1) (omega arith)))
 
-  has-outside : (k : List ℕ) (u : ℕ) → 1 ≤ u → u < t .count → has k u ≡ false → has (outside t k) u ≡ true
-  has-outside k u above below lacks = rw (has-those, lacks, in-range 1 (t .count - 1) u above (omega arith))
+  has-outside : (k : List ℕ) (u : ℕ) → 1 ≤ u → u < t .count → t .isOpen u ≡ true → has k u ≡ false → has (outside t k) u ≡ true
+  has-outside k u above below here lacks =
+      rw (has-those (λ v. not (has k v)) u (openSites t), lacks, has-those (t .isOpen) u (sites t), here)
+      (in-range 1 (t .count - 1) u above (omega arith))
 
-  outside-lacks : (k : List ℕ) (u : ℕ) → has (outside t k) u ≡ true → has k u ≡ false
-  outside-lacks k u m = not-true (has k u) (both (not (has k u)) (has (sites t) u) (rw has-those at m) .0)
+  outside-said : (k : List ℕ) (u : ℕ) → has (outside t k) u ≡ true → (t .isOpen u ≡ true) × (has k u ≡ false)
+  outside-said k u m =
+      let parts = both (not (has k u)) (has (openSites t) u) (sym (has-those (λ v. not (has k v)) u (openSites t)) ∙ m) in
+      (both (t .isOpen u) (has (sites t) u) (sym (has-those (t .isOpen) u (sites t)) ∙ parts .1) .0, not-true (has k u) (parts .0))
 
   -- ---- a step
 
@@ -64,10 +69,12 @@ module _ (t : Tree) (d : Demand) where
       let bounds = ascends-bounds (t .count) 0 v (outside t k) (outside-ascends k) (first .member) in
       record {
         site = omega arith;
-        outside = outside-lacks k v (first .member);
+        isOpen = outside-said k v (first .member) .0;
+        outside = outside-said k v (first .member) .1;
         lowers = lowers;
-        least = λ u above below lacks. first .noLater u (has-outside k u above below lacks) .0;
-        smallest = λ u above less lacks. no-later-smaller (totalWith t d k) v u (first .noLater u (has-outside k u above (omega arith) lacks)) less;
+        least = λ u above below here lacks. first .noLater u (has-outside k u above below here lacks) .0;
+        smallest = λ u above less here lacks.
+            no-later-smaller (totalWith t d k) v u (first .noLater u (has-outside k u above (omega arith) here lacks)) less;
       }
 
   -- a fact of the step from K, by what it does
@@ -75,7 +82,7 @@ module _ (t : Tree) (d : Demand) where
       → P (stepOver t d k (outside t k))
   step-cases P k resting taking =
       step-over P k (outside t k) (outside-ascends k)
-      (λ none. resting record { noneLowers = λ u above below lacks. none u (has-outside k u above below lacks) })
+      (λ none. resting record { noneLowers = λ u above below here lacks. none u (has-outside k u above below here lacks) })
       (λ v first lowers. taking v (first-least-taken k v first lowers))
 
   -- ---- it takes one node, or it rests
@@ -83,7 +90,7 @@ module _ (t : Tree) (d : Demand) where
   takes-no-greater : {k : List ℕ} {v w : ℕ} → Takes t d k v → Takes t d k w → v ≤ w
   takes-no-greater {k} {v} {w} p q =
       elim (decLt w v) [
-        | yes less ↦ absurd (omega (arith, p .smallest w (q .site .0) less (q .outside), q .least v (p .site .0) (p .site .1) (p .outside)))
+        | yes less ↦ absurd (omega (arith, p .smallest w (q .site .0) less (q .isOpen) (q .outside), q .least v (p .site .0) (p .site .1) (p .isOpen) (p .outside)))
         | no more ↦ omega arith
       ]
 
@@ -91,4 +98,4 @@ module _ (t : Tree) (d : Demand) where
   only-takes p q = omega (arith, takes-no-greater p q, takes-no-greater q p)
 
   pub takes-not-rests : {k : List ℕ} {v : ℕ} → Takes t d k v → Rests t d k → ⊥
-  takes-not-rests {k} {v} p q = omega (arith, p .lowers, q .noneLowers v (p .site .0) (p .site .1) (p .outside))
+  takes-not-rests {k} {v} p q = omega (arith, p .lowers, q .noneLowers v (p .site .0) (p .site .1) (p .isOpen) (p .outside))

@@ -16,7 +16,7 @@ use Rattle.model.proofs.Nearest.{distance-grows, cost-is}
 use Rattle.model.proofs.Loads.{links-total}
 use Rattle.model.proofs.BillLaws.{serving-serves, only-serving, cost-least, cost-reached, load-said}
 use Rattle.model.proofs.Bounds.{total-bound}
-use Rattle.model.proofs.Ascending.{set-ascends}
+use Rattle.model.proofs.Ascending.{set-said, set-ascends}
 use Rattle.model.proofs.Sets.{all-sets}
 use Rattle.model.proofs.Order.{rank-irreflexive, rank-transitive, rank-total, ties-said}
 use Rattle.model.proofs.Plans.{plan-ranks-first, only-plan}
@@ -36,6 +36,7 @@ lawful file fits =
       distancesGrow = distance-grows t pre;
       leastAtServing = λ k. cost-is t pre k d;
       loadsAddUp = λ k. links-total t d pre k (ok .server) (ok .part);
+      setSaid = set-said t;
       allSetsExact = all-sets t;
       rankIrreflexive = rank-irreflexive t d;
       rankTransitive = rank-transitive t d;

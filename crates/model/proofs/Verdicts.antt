@@ -17,6 +17,10 @@ pub then-passed : (a b : Verdict) → (a then b) ≡ passed → (a ≡ passed) �
 then-passed passed b e = (refl, e)
 then-passed (broken q i) b e = absurd (broken≢passed e)
 
+pub then-none : (a : Verdict) → (a then passed) ≡ a
+then-none passed = refl
+then-none (broken q i) = refl
+
 pub is-passed : (a : Verdict) → isPassed a ≡ true → a ≡ passed
 is-passed passed e = refl
 is-passed (broken q i) e = absurd (false≢true e)

@@ -1,19 +1,19 @@
 -- Laws of a set with one node more, and with more nodes.
-use mathlib.Core.Path.{_≡_, refl, ap, _∙_}
+use mathlib.Core.Path.{_≡_, refl, sym, ap, _∙_}
 use mathlib.Core.Bool.{true, false, cond, _||_, or-assoc, or-comm}
 use mathlib.Core.List.{List, [], _∷_}
 use Prim.Native.Nat.{ℕ, suc, _+_, _≤_, _<_}
 use native.Mathlib.Omega.{arith}
 use lib.Dec.{ltb, eqb}
 use lib.ListN.{length}
-use borrow.Author.Tests.{ltb-true, ltb-false}
+use borrow.Author.Tests.{ltb-true, ltb-false, eqb-true}
 use Rattle.laws.specs.Lists.{has}
-use Rattle.laws.proofs.Bools.{by-test}
+use Rattle.laws.proofs.Bools.{by-test, either}
 use Rattle.laws.proofs.Lists.{lacks-head, lacks-tail}
 use Rattle.model.specs.File.{Tree}
 use Rattle.model.specs.Rules.{ascends, isSet}
 use Rattle.model.specs.Greedy.{withNode, withNodes}
-use Rattle.model.proofs.Ascending.{ascends-cons, set-is, set-ascends}
+use Rattle.model.proofs.Ascending.{ascends-cons, set-said}
 
 -- with a node that it lacks it still ascends
 pub ascends-with-node : (n a v : ℕ) (k : List ℕ) → a < v → v < n → has k v ≡ false → ascends a n k ≡ true → ascends a n (withNode v k) ≡ true
@@ -27,17 +27,21 @@ ascends-with-node n a v (u ∷ us) above below lacks h =
     (λ e. ascends-cons n a v (u ∷ us) .1 (above, below, ascends-cons n v u us .1 (ltb-true v u e, parts .1, parts .2)))
     (λ e. ascends-cons n a u (withNode v us) .1 (parts .0, parts .1, rest (omega (arith, ltb-false))))
 
--- and is a set, if it is a site's
-pub with-node-is-set : (t : Tree) (v : ℕ) (k : List ℕ) → 1 ≤ v → v < t .count → has k v ≡ false → isSet t k ≡ true → isSet t (withNode v k) ≡ true
-with-node-is-set t v k above below lacks h =
-    set-is t (withNode v k) ∙ ascends-with-node (t .count) 0 v k above below lacks (set-ascends t k h)
-
 pub has-with-node : (v u : ℕ) (k : List ℕ) → has (withNode v k) u ≡ (eqb v u || has k u)
 unfolding withNode has
 has-with-node v u [] = refl
 has-with-node v u (x ∷ xs) =
     by-test (λ b. has (cond b (v ∷ x ∷ xs) (x ∷ withNode v xs)) u ≡ (eqb v u || (eqb x u || has xs u))) (ltb v x) (λ _. refl)
     (λ _. rw (has-with-node v u xs, ← or-assoc (eqb x u), or-comm (eqb x u) (eqb v u), or-assoc))
+
+-- and is a set, if it is an open site's
+pub with-node-is-set : (t : Tree) (v : ℕ) (k : List ℕ) → 1 ≤ v → v < t .count → t .isOpen v ≡ true → has k v ≡ false → isSet t k ≡ true → isSet t (withNode v k) ≡ true
+with-node-is-set t v k above below here lacks h =
+    let said = set-said t k .0 h in
+    set-said t (withNode v k) .1 (
+      ascends-with-node (t .count) 0 v k above below lacks (said .0),
+      λ u m. either (t .isOpen u ≡ true) (eqb v u) (has k u) (λ e. rw (eqb-true v u e) at here) (said .1 u) (sym (has-with-node v u k) ∙ m),
+    )
 
 length-with-node : (v : ℕ) (k : List ℕ) → length (withNode v k) ≡ suc (length k)
 unfolding withNode

@@ -1,11 +1,11 @@
--- The definitions agree with document 01's worked cases that it does not mark, and with those of 02, items 2 and 4, on bytes
--- written out.
+-- The definitions agree with document 01's worked cases that it does not mark, and with those of 02, items 2, 4 and 9, on
+-- bytes written out.
 use mathlib.Core.Path.{_≡_, refl}
 use mathlib.Core.List.{List, [], _∷_, flatMap}
 use Prim.Native.Nat.{ℕ, zero, suc, _*_, _<_}
 use native.Mathlib.Omega.{arith}
-use Rattle.laws.specs.Lists.{range, sum, least, greatest, has, anyOf, those, howMany, firstThat, same}
-use Rattle.model.specs.File.{number, parentField, lengthField, flowField, hitField, cachableField, hasRatios, recordLength, fieldOf, shareOf, treeOf, demandOf}
+use Rattle.laws.specs.Lists.{range, sum, least, greatest, has, anyOf, allOf, those, howMany, firstThat, same}
+use Rattle.model.specs.File.{number, parentField, lengthField, flowField, hitField, cachableField, hasRatios, hasOpenBytes, recordLength, fieldOf, openOf, shareOf, treeOf, demandOf}
 use Rattle.model.specs.Tree.{climb, route, atOrBelow, depth, height, distance}
 use Rattle.model.specs.Rules.{Verdict, parentHolds, lengthHolds, recordVerdict, recordsVerdict, marked, fileVerdict, accepted, ascends, isSet, scratchWords}
 use Rattle.model.specs.Bill.{whole, cachable, price, cost, total, upTo, clientLoad, linkLoad, serving}
@@ -18,7 +18,7 @@ use Rattle.model.specs.Hosts.{wordsAsked, HostBillMemory, hostBillVerdic
 use Rattle.model.specs.Bytes.{bytesOf, headerBytes, recordOf}
 use Rattle.model.specs.Cases.{treeA}
 use Rattle.model.specs.Situations.{firstSituation, costIn, paperCost, situation}
-use Rattle.model.specs.Samples.{fileA, secondA, largest, secondLargest, threeSevenths, tooMuch, eachKind, secondEachKind, tooLong}
+use Rattle.model.specs.Samples.{fileA, secondA, thirdA, closedLast, lastByte, visited, largest, secondLargest, threeSevenths, tooMuch, eachKind, secondEachKind, tooLong}
 use Rattle.model.specs.Worked.{Worked}
 
 -- ---- what a call's statement settles
@@ -61,8 +61,14 @@ of-five P a b c d e (suc (suc (suc zero))) h = d
 of-five P a b c d e (suc (suc (suc (suc zero)))) h = e
 of-five P a b c d e (suc (suc (suc (suc (suc f))))) h = absurd (omega arith)
 
+-- and of each of two
+of-two : (P : ℕ → Type 0) → P 0 → P 1 → (v : ℕ) → v < 2 → P v
+of-two P a b zero h = a
+of-two P a b (suc zero) h = b
+of-two P a b (suc (suc f)) h = absurd (omega arith)
+
 pub worked : Worked
-unfolding fileA secondA largest secondLargest threeSevenths tooMuch eachKind secondEachKind tooLong bytesOf headerBytes recordOf treeA flatMap range sum least greatest has anyOf those howMany firstThat same number hasRatios recordLength fieldOf shareOf climb route atOrBelow depth height distance parentHolds lengthHolds recordVerdict recordsVerdict marked fileVerdict accepted ascends isSet scratchWords whole cachable price cost total upTo clientLoad linkLoad serving smallerFirst members visits tiesBefore ranksBefore setsOf firstOf plan withNode withNodes leastNode stepOver takenFrom checkNumber recordBytes billVerdict rankVerdict ranking planTotals planRows planVerdict greedyTotals greedyRow greedyVerdict setOfRow reportVerdict digits decimal line reportText refusalText verdictWithin textWithin wordsAsked hostBillVerdict firstSituation costIn paperCost situation
+unfolding fileA secondA thirdA closedLast visited largest secondLargest threeSevenths tooMuch eachKind secondEachKind tooLong bytesOf headerBytes recordOf treeA flatMap range sum least greatest has anyOf allOf those howMany firstThat same number hasRatios hasOpenBytes recordLength fieldOf openOf shareOf climb route atOrBelow depth height distance parentHolds lengthHolds recordVerdict recordsVerdict marked fileVerdict accepted ascends isSet scratchWords whole cachable price cost total upTo clientLoad linkLoad serving smallerFirst members visits tiesBefore ranksBefore setsOf firstOf plan withNode withNodes leastNode stepOver takenFrom checkNumber recordBytes billVerdict rankVerdict ranking planTotals planRows planVerdict greedyTotals greedyRow greedyVerdict setOfRow reportVerdict digits decimal line reportText refusalText verdictWithin textWithin wordsAsked hostBillVerdict firstSituation costIn paperCost situation
 worked = record {
   files = record {
     offsets = refl;
@@ -76,7 +82,7 @@ worked = record {
     markSecond = refl;
     markThird = refl;
     versionNone = refl;
-    versionThree = refl;
+    versionFour = refl;
     versionHigh = refl;
     noNodes = refl;
     mostNodesAndBudget = refl;
@@ -118,7 +124,6 @@ worked = record {
     byteUnder = refl;
     shortRecords = refl;
     longRecords = refl;
-    versionThree = refl;
     versionHigh = refl;
     noNodes = refl;
     mostNodesAndBudget = refl;
@@ -168,6 +173,97 @@ worked = record {
       flows = of-five (λ v. fieldOf secondA flowField v ≡ fieldOf fileA flowField v) refl refl refl refl refl;
       cachables = of-five (λ v. 1000 * fieldOf secondA cachableField v ≡ fieldOf fileA flowField v * fieldOf fileA hitField v) refl refl refl refl refl;
     };
+  };
+  third = record {
+    thirdAPasses = refl;
+    byteOver = refl;
+    byteUnder = refl;
+    shortRecords = refl;
+    longRecords = refl;
+    versionFour = refl;
+    versionHigh = refl;
+    noNodes = refl;
+    mostNodesAndBudget = refl;
+    nodesOver = refl;
+    budgetOver = refl;
+    byteZero = refl;
+    byteOne = refl;
+    byteTwo = refl;
+    byteMost = refl;
+    parentFirst = refl;
+    depthFirst = refl;
+    lengthFirst = refl;
+    flowFirst = refl;
+    cachableFirst = refl;
+    nodeByNode = refl;
+    laterRecord = refl;
+    serverOpen = refl;
+    serverClosed = refl;
+    serverByte = refl;
+    checkOfAccepted = refl;
+    checkOfRefused = refl;
+    checkOfServer = refl;
+    lastRecord = refl;
+    recordPast = refl;
+    longestFile = refl;
+    longestShort = refl;
+    openSitesOfThirdA = refl;
+    openSitesOfSecondA = refl;
+    openSitesOfA = refl;
+    openSet = refl;
+    closedSet = refl;
+    closedAmongOpen = refl;
+    closedAfterOpen = refl;
+    hostClosedAfterOpen = refl;
+    firstClosedAfterOpen = refl;
+    secondClosedAfterOpen = refl;
+    twentyFourFirst = refl;
+    loadsShort = refl;
+    firstClosed = refl;
+    secondClosed = refl;
+    noWinner = refl;
+    totalOfTwo = refl;
+    loadsOfTwo = refl;
+    planPasses = refl;
+    planScratchShort = refl;
+    planRowsShort = refl;
+    totalsOfPlan = refl;
+    rowsOfPlan = refl;
+    totalsOfGreedy = refl;
+    rowOfGreedy = refl;
+    wordsOfThirdA = refl;
+    wordsOfClosed = refl;
+    totalsOfClosed = refl;
+    greedyOfClosed = refl;
+    rowOfClosed = refl;
+    totalsOfOpen = refl;
+    greedyOfOpen = refl;
+    rowOfOpen = refl;
+    visitedPasses = refl;
+    visitedPlan = refl;
+    visitedTotal = refl;
+    visitedRival = refl;
+    visitedFirst = refl;
+    visitedSecond = refl;
+    addsOpenBytes = record {
+      second = (refl, refl);
+      third = (refl, refl);
+      count = refl;
+      parents = of-five (λ v. fieldOf thirdA parentField v ≡ fieldOf secondA parentField v) refl refl refl refl refl;
+      lengths = of-five (λ v. fieldOf thirdA lengthField v ≡ fieldOf secondA lengthField v) refl refl refl refl refl;
+      flows = of-five (λ v. fieldOf thirdA flowField v ≡ fieldOf secondA flowField v) refl refl refl refl refl;
+      cachables = of-five (λ v. fieldOf thirdA cachableField v ≡ fieldOf secondA cachableField v) refl refl refl refl refl;
+    };
+    addsOpenOnly = record {
+      second = (refl, refl);
+      third = (refl, refl);
+      count = refl;
+      parents = of-two (λ v. fieldOf (lastByte 0x01) parentField v ≡ fieldOf threeSevenths parentField v) refl refl;
+      lengths = of-two (λ v. fieldOf (lastByte 0x01) lengthField v ≡ fieldOf threeSevenths lengthField v) refl refl;
+      flows = of-two (λ v. fieldOf (lastByte 0x01) flowField v ≡ fieldOf threeSevenths flowField v) refl refl;
+      cachables = of-two (λ v. fieldOf (lastByte 0x01) cachableField v ≡ fieldOf threeSevenths cachableField v) refl refl;
+    };
+    openOnly = refl;
   };
   situations = record {
     eachKindPasses = refl;
@@ -273,6 +369,11 @@ worked = record {
     planOfSecond = λ c. let s = plan-settled c in (s .0, s .1 .0, s .1 .1, s .2, s .3);
     greedyOfSecond = λ c. let s = greedy-settled c in (s .0, s .1 .0, s .1 .1, s .2, s .3);
     reportOfSecond = λ c. let s = report-settled c in (s .0, s .1 .0, s .1 .1, s .2, s .3, s .4, s .5, c .demandThree (s .0));
+    billOfClosed = λ c. (c .answers, c .servingsAfter, c .loadsAfter);
+    hostBillOfClosed = host-bill-settled;
+    planOfThird = λ c. let s = plan-settled c in (s .0, s .1 .0, s .1 .1, s .2, s .3);
+    greedyOfThird = λ c. let s = greedy-settled c in (s .0, s .1 .0, s .1 .1, s .2, s .3);
+    reportOfThird = λ c. let s = report-settled c in (s .0, s .1 .0, s .1 .1, s .2, s .3, s .4, s .5, c .demandThree (s .0));
     billRefused = λ c. (c .answers, c .servingsAfter, c .loadsAfter);
     hostBillSettled = host-bill-settled;
     hostBillRefused = host-bill-settled;
@@ -288,24 +389,41 @@ worked = record {
     refusalOfLength = refl;
     reportOfSecondA = refl;
     refusalOfCachable = refl;
+    reportOfThirdA = refl;
+    refusalOfOpen = refl;
     formerPasses = refl;
     formerLookOver = refl;
     formerLookWithin = refl;
     formerTextOver = refl;
     formerTextWithin = refl;
+    secondPasses = refl;
+    secondLookOver = refl;
+    secondLookWithin = refl;
     lookOver = refl;
     lookWithin = refl;
     textOver = refl;
     nodesWithin = refl;
     nodesWithinInSecond = refl;
+    nodesWithinInThird = refl;
     nodesBeyond = refl;
+    nodesFarBeyond = refl;
+    nodesBeyondInSecond = refl;
+    nodesFarBeyondInSecond = refl;
     heightWithin = refl;
     heightBeyond = refl;
     budgetBeyond = refl;
     elevenBeforeNodes = refl;
+    elevenAtEnd = refl;
+    elevenBeyond = refl;
+    seventeenAtEnd = refl;
+    seventeenBeyond = refl;
+    twentyFourAtEnd = refl;
+    twentyFourBeyond = refl;
     heightWithinInSecond = refl;
     heightBeyondInSecond = refl;
     budgetBeyondInSecond = refl;
+    budgetBeyondInThird = refl;
+    twentyFourBeforeFifteen = refl;
     seventeenBeforeFifteen = refl;
     elevenFirst = refl;
   };

@@ -4,7 +4,7 @@ use mathlib.Core.Bool.{true}
 use mathlib.Core.List.{List}
 use Prim.Native.Nat.{ℕ, _≤_}
 use lib.ListN.{length}
-use Rattle.model.specs.File.{Tree, Demand, treeOf, demandOf, firstVersion, newestVersion, versionOf, countOf, budgetOf, recordAt, mostNodes, mostBudget, mostDepth, mostLength, mostFlow}
+use Rattle.model.specs.File.{Tree, Demand, treeOf, demandOf, firstVersion, thirdVersion, versionOf, countOf, budgetOf, recordAt, mostNodes, mostBudget, mostDepth, mostLength, mostFlow}
 use Rattle.model.specs.Tree.{depth}
 use Rattle.model.specs.Rules.{passed, parentHolds, lengthHolds, askShare, recordsVerdict}
 use Rattle.model.specs.Bill.{whole, cachable}
@@ -13,7 +13,7 @@ use Rattle.model.specs.Preorder.{Preorder}
 -- what rules 3 to 6 say of the header, and that no record breaks a rule
 pub record HeaderHolds (s : List ℕ) : Type 0 where
   pub first : firstVersion ≤ versionOf s
-  pub newest : versionOf s ≤ newestVersion
+  pub newest : versionOf s ≤ thirdVersion
   pub some : 1 ≤ countOf s
   pub few : countOf s ≤ mostNodes
   pub budget : budgetOf s ≤ mostBudget

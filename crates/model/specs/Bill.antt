@@ -27,13 +27,13 @@ abbrev pub cachableAmount : ℕ → Share → ℕ
 cachableAmount f (ratio p) = f * p
 cachableAmount f (bytes b) = thousandths * b
 
--- what it costs at distance x from the server if a node at distance y serves it: "f × (1,000 × d(c) − p × d(v))", and in version
--- 2 "1,000 × (flow × d(c) − cachable × d(v))"
+-- what it costs at distance x from the server if a node at distance y serves it: "f × (1,000 × d(c) − p × d(v))", and from
+-- version 2 on "1,000 × (flow × d(c) − cachable × d(v))"
 abbrev pub servedPrice : ℕ → Share → ℕ → ℕ → ℕ
 servedPrice f (ratio p) x y = f * (thousandths * x - p * y)
 servedPrice f (bytes b) x y = thousandths * (f * x - b * y)
 
--- what it puts on a link where a cache serves it: "f × (1,000 − p)", and in version 2 "1,000 × (flow − cachable)"
+-- what it puts on a link where a cache serves it: "f × (1,000 − p)", and from version 2 on "1,000 × (flow − cachable)"
 abbrev pub servedLoad : ℕ → Share → ℕ
 servedLoad f (ratio p) = f * (thousandths - p)
 servedLoad f (bytes b) = thousandths * (f - b)

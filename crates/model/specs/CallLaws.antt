@@ -8,12 +8,12 @@ use mathlib.Core.Logic.{_↔_}
 use Prim.Native.Nat.{ℕ, _+_, _*_, _-_, _/_, _%_, _≤_}
 use lib.ListN.{length, getD}
 use Rattle.model.specs.File.{treeOf, demandOf, budgetOf}
-use Rattle.model.specs.Rules.{Verdict, passed, broken, scratchWords}
+use Rattle.model.specs.Rules.{Verdict, passed, broken, isSet, scratchWords}
 use Rattle.model.specs.Bill.{linkTotal}
 use Rattle.model.specs.Ties.{ranksBefore}
 use Rattle.model.specs.Plan.{plan, planTotal}
 use Rattle.model.specs.Greedy.{greedyTotal}
-use Rattle.model.specs.Calls.{answered, refused, first, second, ScratchAfter, billBuffersLong, servingNodes, linkLoads, rankVerdict, ranking, winner, planTotals, planRows, planBuffersLong, PlanMemory, planVerdict, PlanCall, greedyTotals, greedyRow, greedyBuffersLong, GreedyMemory, greedyVerdict, GreedyCall}
+use Rattle.model.specs.Calls.{answered, refused, first, second, ScratchAfter, BillMemory, billVerdict, billBuffersLong, servingNodes, linkLoads, rankVerdict, ranking, winner, planTotals, planRows, planBuffersLong, PlanMemory, planVerdict, PlanCall, greedyTotals, greedyRow, greedyBuffersLong, GreedyMemory, greedyVerdict, GreedyCall}
 use Rattle.model.specs.Report.{setOfRow, ReportMemory, DemandThree, reportBuffersLong, reportVerdict, ReportCall, digit, decimal}
 use Rattle.model.specs.Hosts.{codeOf, HostBillMemory, hostBillVerdict}
 
@@ -49,6 +49,10 @@ readAfter x (c ∷ cs) = readAfter (10 * x + (c - digit 0)) cs
 -- of a file, with any sets, buffers and scratch
 pub record CallsLawful (file : List ℕ) : Type 0 where
   pub rankings : (k l : List ℕ) → RankingSaid file k l
+  -- 12: what is billed or ranked is a set of open nodes
+  pub billedIsSet : (set : List ℕ) (memory : BillMemory) → billVerdict file set memory ≡ passed → isSet (treeOf file) set ≡ true
+  pub hostBilledIsSet : (set : List ℕ) (memory : HostBillMemory) → hostBillVerdict file set memory ≡ passed → isSet (treeOf file) set ≡ true
+  pub rankedAreSets : (k l : List ℕ) → rankVerdict file k l ≡ passed → (isSet (treeOf file) k ≡ true) × (isSet (treeOf file) l ≡ true)
   -- a host's code of the bill, the plan, the greedy rule and the report
   pub billCode : (set : List ℕ) (memory : HostBillMemory) → CodeSaid (hostBillVerdict file set memory)
   pub planCode : (memory : PlanMemory) → CodeSaid (planVerdict file memory)

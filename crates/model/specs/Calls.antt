@@ -36,7 +36,7 @@ abbrev pub ScratchAfter : Verdict → ℕ → List ℕ → List ℕ → Type 0
 ScratchAfter passed words old new = (length new ≡ length old) × (drop words new ≡ drop words old)
 ScratchAfter (broken q i) words old new = new ≡ old
 
--- ---- the check for a C host: 0, or the number of the first broken rule about the file itself (17 "for the C host too")
+-- ---- the check for a C host: 0, or the number of the first broken rule about the file itself (17 and 24 "for the C host too")
 
 abbrev pub numberOf : Verdict → ℕ
 numberOf passed = 0
@@ -45,7 +45,7 @@ numberOf (broken q i) = q
 unfoldable pub checkNumber : List ℕ → ℕ
 checkNumber file = numberOf (fileVerdict file)
 
--- ---- the record of a node: its 10 or 12 bytes, "empty if the file is refused or the node is not below n"
+-- ---- the record of a node: its 10, 12 or 13 bytes, "empty if the file is refused or the node is not below n"
 
 unfoldable pub recordBytes : List ℕ → ℕ → List ℕ
 recordBytes file v = cond (accepted file && ltb v (countOf file)) (part file (recordAt file v) (recordLength file)) []

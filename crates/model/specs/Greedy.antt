@@ -1,11 +1,11 @@
--- Document 01, "Greedy": the greedy rule of 004 section IV-A, with 01's own stop.
+-- Document 01, "Greedy", with 02, item 9: the greedy rule of 004 section IV-A over open nodes, with 01's own stop.
 use mathlib.Core.Bool.{cond, not}
 use mathlib.Core.List.{List, [], _∷_}
 use Prim.Native.Nat.{ℕ, zero, suc}
 use lib.Dec.{ltb}
 use Rattle.laws.specs.Lists.{has, those}
 use Rattle.model.specs.File.{Tree, Demand}
-use Rattle.model.specs.Tree.{sites}
+use Rattle.model.specs.Tree.{openSites}
 use Rattle.model.specs.Bill.{total}
 
 -- the set K with the node v, in ascending order
@@ -18,9 +18,9 @@ unfoldable pub withNodes : List ℕ → List ℕ → List ℕ
 withNodes k [] = k
 withNodes k (v ∷ vs) = withNodes (withNode v k) vs
 
--- the nodes outside the set K, ascending
+-- the open nodes outside the set K, ascending
 abbrev pub outside : Tree → List ℕ → List ℕ
-outside t k = those (λ v. not (has k v)) (sites t)
+outside t k = those (λ v. not (has k v)) (openSites t)
 
 -- what a step does
 pub data Step : Type 0 where

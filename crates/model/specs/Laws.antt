@@ -10,7 +10,7 @@ use lib.ListN.{length, take, getD}
 use Rattle.laws.specs.Lists.{sum, has, howMany}
 use Rattle.model.specs.File.{Tree, ratio, bytes, Demand}
 use Rattle.model.specs.Tree.{server, nodes, route, atOrBelow, distance}
-use Rattle.model.specs.Rules.{isSet}
+use Rattle.model.specs.Rules.{ascends, isSet}
 use Rattle.model.specs.Bill.{totalLimit, price, cost, total, linkLoad, linkTotal, serving}
 use Rattle.model.specs.Ties.{tiesBefore, ranksBefore}
 use Rattle.model.specs.Plan.{allSets, plan, planTotal}
@@ -50,22 +50,25 @@ module _ (t : Tree) (k l : List ℕ) where
 -- v is the node that the greedy rule takes from K
 pub record Takes (t : Tree) (d : Demand) (k : List ℕ) (v : ℕ) : Type 0 where
   pub site : (1 ≤ v) × (v < t .count)
+  pub isOpen : t .isOpen v ≡ true
   pub outside : has k v ≡ false
   pub lowers : total t d (withNode v k) < total t d k
-  -- no other node outside K undercuts it
-  pub least : (u : ℕ) → 1 ≤ u → u < t .count → has k u ≡ false → total t d (withNode v k) ≤ total t d (withNode u k)
+  -- no other open node outside K undercuts it
+  pub least : (u : ℕ) → 1 ≤ u → u < t .count → t .isOpen u ≡ true → has k u ≡ false
+      → total t d (withNode v k) ≤ total t d (withNode u k)
   -- every smaller-numbered one exceeds it
-  pub smallest : (u : ℕ) → 1 ≤ u → u < v → has k u ≡ false → total t d (withNode v k) < total t d (withNode u k)
+  pub smallest : (u : ℕ) → 1 ≤ u → u < v → t .isOpen u ≡ true → has k u ≡ false
+      → total t d (withNode v k) < total t d (withNode u k)
 
--- no node outside K lowers the total
+-- no open node outside K lowers the total
 pub record Rests (t : Tree) (d : Demand) (k : List ℕ) : Type 0 where
-  pub noneLowers : (u : ℕ) → 1 ≤ u → u < t .count → has k u ≡ false → total t d k ≤ total t d (withNode u k)
+  pub noneLowers : (u : ℕ) → 1 ≤ u → u < t .count → t .isOpen u ≡ true → has k u ≡ false → total t d k ≤ total t d (withNode u k)
 
 -- g are the nodes that the greedy rule takes from K in at most b steps, in the order taken
 pub record RunFrom (t : Tree) (d : Demand) (k : List ℕ) (b : ℕ) (g : List ℕ) : Type 0 where
   pub within : length g ≤ b
   pub steps : (j : ℕ) → j < length g → Takes t d (withNodes k (take j g)) (getD g j 0)
-  -- fewer than b only where no node outside lowers the total
+  -- fewer than b only where no open node outside lowers the total
   pub stop : length g < b → Rests t d (withNodes k g)
 
 -- those that it takes from the empty set
@@ -104,7 +107,9 @@ pub record Lawful (t : Tree) (d : Demand) : Type 0 where
   pub leastAtServing : (k : List ℕ) (c : ℕ) → cost t d k c ≡ price t d c (serving t k c)
   -- b. Over the links above nodes 1 to n − 1, loads times lengths add up to the total.
   pub loadsAddUp : (k : List ℕ) → linkTotal t d k ≡ total t d k
-  -- c. The enumeration holds exactly the sets of at most b nodes.
+  -- c. A set ascends strictly from 1 on, below n, and each of its nodes is open. The enumeration holds exactly the sets of at most
+  -- b nodes.
+  pub setSaid : (k : List ℕ) → isSet t k ≡ true ↔ ((ascends 0 (t .count) k ≡ true) × ((v : ℕ) → has k v ≡ true → t .isOpen v ≡ true))
   pub allSetsExact : (b : ℕ) (k : List ℕ) → List·Memᴰ k (allSets t b) ↔ ((isSet t k ≡ true) × (length k ≤ b))
   -- d. Rank is a strict total order on sets.
   pub rankIrreflexive : (k : List ℕ) → ranksBefore t d k k ≡ false

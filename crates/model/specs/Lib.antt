@@ -18,4 +18,5 @@ pub mod Laws
 pub mod Versions
 pub mod Situations
 pub mod Samples
+pub mod VersionCases
 pub mod Worked

@@ -1,10 +1,10 @@
--- Document 01, "Plan": for each budget, of all sets of at most so many nodes, the one that ranks first.
+-- Document 01, "Plan", with 02, item 9: for each budget, of all sets of at most so many open nodes, the one that ranks first.
 use mathlib.Core.Bool.{cond}
 use mathlib.Core.List.{List, [], _∷_, _++_, map}
 use Prim.Native.Nat.{ℕ, zero, suc, _-_}
 use lib.ListN.{length, replicate}
 use Rattle.model.specs.File.{Tree, Demand}
-use Rattle.model.specs.Tree.{sites}
+use Rattle.model.specs.Tree.{openSites}
 use Rattle.model.specs.Bill.{total}
 use Rattle.model.specs.Ties.{ranksBefore}
 
@@ -14,9 +14,9 @@ setsOf zero vs = [] ∷ []
 setsOf (suc b) [] = [] ∷ []
 setsOf (suc b) (v ∷ vs) = setsOf (suc b) vs ++ map (λ k. v ∷ k) (setsOf b vs)
 
--- all sets of at most b nodes
+-- all sets of at most b nodes: "The plan's sets, rivals .. range over open nodes only"
 abbrev pub allSets : Tree → ℕ → List (List ℕ)
-allSets t b = setsOf b (sites t)
+allSets t b = setsOf b (openSites t)
 
 module _ (t : Tree) (d : Demand) where
   -- of K and a list of sets, the one that ranks first

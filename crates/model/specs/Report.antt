@@ -1,4 +1,4 @@
--- Document 01, "Report", with 02, item 2: demand 3 as one record, the report call, and the text that the program prints.
+-- Document 01, "Report", with 02, items 2 and 9: demand 3 as one record, the report call, and the text that the program prints.
 use mathlib.Core.Path.{_≡_}
 use mathlib.Core.Bool.{Bool, true, false, _&&_, not}
 use mathlib.Core.List.{List, [], _∷_, _++_, map, flatMap}
@@ -26,7 +26,7 @@ pub record HoldsOptimum (t : Tree) (d : Demand) (b : ℕ) (held : List ℕ) (pla
   pub exactTotal : planHeld ≡ total t d held
   -- "that total is also the sum over links of load times length"
   pub overLinks : planHeld ≡ linkTotal t d held
-  -- "every other set of at most b nodes costs at least as much"
+  -- "every other set of at most b nodes", open ones, "costs at least as much"
   pub noRivalLess : (l : List ℕ) → isSet t l ≡ true → length l ≤ b → planHeld ≤ total t d l
   -- "and one that costs the same comes later in the order of ties"
   pub rivalsLater : (l : List ℕ) → isSet t l ≡ true → length l ≤ b → (l ≡ held → ⊥) → total t d l ≡ planHeld → tiesBefore t held l ≡ true
@@ -116,9 +116,9 @@ refusalText q i = line refusedWord (map decimal (q ∷ i ∷ []))
 
 -- ---- the report program
 
--- "The program looks at its first 650 input bytes"; with 02, item 2, "the program's first look is 778 bytes"
+-- "The program looks at its first 650 input bytes"; with 02, item 9, "the program's first look is 842 bytes"
 abbrev pub firstLook : ℕ
-firstLook = 778
+firstLook = 842
 
 -- the limits of question 15
 abbrev pub programNodes : ℕ
@@ -133,8 +133,8 @@ programBudget = 8
 abbrev pub isSmall : List ℕ → Bool
 isSmall s = leb (countOf s) programNodes && leb (height (treeOf s)) programHeight && leb (budgetOf s) programBudget
 
--- if all bytes of the first look exist "it answers 15 before question 1. It asks the rest of 15 right after 11", in version 2
--- after 17
+-- if all bytes of the first look exist "it answers 15 before question 1. It asks the rest of 15 right after 11", from
+-- version 2 on after all questions on records
 unfoldable pub verdictWithin : ℕ → List ℕ → Verdict
 verdictWithin look s = askProgram (ltb (length s) look) then fileVerdict s then askProgram (isSmall s)
 

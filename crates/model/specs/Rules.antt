@@ -1,13 +1,13 @@
--- Document 01, "The questions, in this order", with 02, item 2: each rule, and what a file, a set, a scratch and a buffer must
--- fulfil.
+-- Document 01, "The questions, in this order", with 02, items 2 and 9: each rule, and what a file, a set, a scratch and a buffer
+-- must fulfil.
 -- "Rule N" is question N. The order in which a call asks them is in Calls.
-use mathlib.Core.Bool.{Bool, true, false, _&&_}
+use mathlib.Core.Bool.{Bool, true, false, cond, _&&_}
 use mathlib.Core.List.{List, [], _∷_}
 use Prim.Native.Nat.{ℕ, zero, suc, _+_, _*_}
 use lib.Dec.{leb, ltb, eqb}
 use lib.ListN.{length, take}
-use Rattle.laws.specs.Lists.{has, same}
-use Rattle.model.specs.File.{Tree, Share, ratio, bytes, treeOf, demandOf, mostNodes, mostBudget, mostDepth, mark, firstVersion, newestVersion, headerLength, versionOf, countOf, budgetOf, recordAt, lengthField, flowField, hitField}
+use Rattle.laws.specs.Lists.{has, allOf, same}
+use Rattle.model.specs.File.{Tree, Share, ratio, bytes, treeOf, demandOf, mostNodes, mostBudget, mostDepth, mark, firstVersion, thirdVersion, headerLength, versionOf, countOf, budgetOf, hasOpenBytes, recordAt, lengthField, flowField, hitField, openField, fieldOf}
 use Rattle.model.specs.Tree.{route, depth, height}
 
 -- no rule broken so far, or the first broken one: its number and its record
@@ -30,7 +30,7 @@ abbrev pub isPassed : Verdict → Bool
 isPassed passed = true
 isPassed (broken q i) = false
 
--- ---- rules 7 to 11 and 17, record by record
+-- ---- rules 7 to 11, 17 and 24, record by record
 
 -- 7: "Is the parent 0 (node 0), or node i − 1 or an ancestor of it?"
 unfoldable pub parentHolds : Tree → ℕ → Bool
@@ -42,12 +42,16 @@ unfoldable pub lengthHolds : Tree → ℕ → Bool
 lengthHolds t zero = eqb (t .linkLength 0) 0
 lengthHolds t (suc i) = leb (t .linkLength (suc i)) (lengthField .most)
 
--- 11: "Is the hit at most 1,000?" And in version 2: "17, with its record: cachable bytes exceed the flow; replaces 11"
+-- 11: "Is the hit at most 1,000?" And from version 2 on: "17, with its record: cachable bytes exceed the flow; replaces 11"
 abbrev pub askShare : ℕ → ℕ → Share → Verdict
 askShare i f (ratio p) = ask 11 i (leb p (hitField .most))
 askShare i f (bytes b) = ask 17 i (leb b f)
 
--- 8: "Is the depth at most 32?" 10: "Is the flow at most 100,000,000?"
+-- "24, with its record: the byte is neither 0 nor 1": only version 3 has it
+abbrev pub askOpen : List ℕ → ℕ → Verdict
+askOpen s i = cond (hasOpenBytes s) (ask 24 i (leb (fieldOf s openField i) (openField .most))) passed
+
+-- 8: "Is the depth at most 32?" 10: "Is the flow at most 100,000,000?" 24 is "last in the record".
 unfoldable pub recordVerdict : List ℕ → ℕ → Verdict
 recordVerdict s i =
     let t = treeOf s in
@@ -57,8 +61,9 @@ recordVerdict s i =
     then ask 9 i (lengthHolds t i)
     then ask 10 i (leb (d .flow i) (flowField .most))
     then askShare i (d .flow i) (d .share i)
+    then askOpen s i
 
--- the first n records, "each through 7 to 11 before the next", in version 2 with 17 for 11
+-- the first n records, "each through 7 to 11 before the next", from version 2 on with 17 for 11, in version 3 with 24 besides
 unfoldable pub recordsVerdict : List ℕ → ℕ → Verdict
 recordsVerdict s zero = passed
 recordsVerdict s (suc i) = recordsVerdict s i then recordVerdict s i
@@ -69,19 +74,20 @@ recordsVerdict s (suc i) = recordsVerdict s i then recordVerdict s i
 unfoldable pub marked : List ℕ → Bool
 marked s = same (take (length mark) s) mark
 
--- 1: "Are there at least 9 bytes?" 3: "admits 1 and 2". 4: "Is n from 1 to 1,024?" 5: "Is k from 0 to 32?"
--- 6: "Is the file exactly 9 + 10 × n bytes?", in version 2 "counts the longer record". Then the records.
+-- 1: "Are there at least 9 bytes?" 3: "admits" 1, 2 and 3. 4: "Is n from 1 to 1,024?" 5: "Is k from 0 to 32?"
+-- 6: "Is the file exactly 9 + 10 × n bytes?", in version 2 "counts the longer record" and in version 3
+-- "13-byte records". Then the records.
 unfoldable pub fileVerdict : List ℕ → Verdict
 fileVerdict s =
     ask 1 0 (leb headerLength (length s))
     then ask 2 0 (marked s)
-    then ask 3 0 (leb firstVersion (versionOf s) && leb (versionOf s) newestVersion)
+    then ask 3 0 (leb firstVersion (versionOf s) && leb (versionOf s) thirdVersion)
     then ask 4 0 (leb 1 (countOf s) && leb (countOf s) mostNodes)
     then ask 5 0 (leb (budgetOf s) mostBudget)
     then ask 6 0 (eqb (length s) (recordAt s (countOf s)))
     then recordsVerdict s (countOf s)
 
--- "A file is accepted when no question about the file itself, here 1 to 11, gets a no"; with 02, item 2, also 17
+-- "A file is accepted when no question about the file itself, here 1 to 11, gets a no"; with 02 also 17 and 24
 unfoldable pub accepted : List ℕ → Bool
 accepted s = isPassed (fileVerdict s)
 
@@ -92,11 +98,11 @@ unfoldable pub ascends : ℕ → ℕ → List ℕ → Bool
 ascends a n [] = true
 ascends a n (v ∷ vs) = ltb a v && ltb v n && ascends v n vs
 
--- a set: strictly ascending, each from 1 to n − 1
+-- a set: strictly ascending, each from 1 to n − 1 and open
 unfoldable pub isSet : Tree → List ℕ → Bool
-isSet t k = ascends 0 (t .count) k
+isSet t k = ascends 0 (t .count) k && allOf (t .isOpen) k
 
--- 12: "Is the set strictly ascending, each from 1 to n − 1?"
+-- 12: "Is the set strictly ascending, each from 1 to n − 1?"; "also refuses a set with a closed node"
 abbrev pub askSet : List ℕ → List ℕ → Verdict
 askSet s k = ask 12 0 (isSet (treeOf s) k)
 

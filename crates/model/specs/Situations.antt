@@ -7,7 +7,7 @@
 --     p = 0                        f · (d(c, v) + d(v, s)) = f · d(c)
 --     p = 1                        f · d(c, v) = f · (d(c) − d(v))
 --     else                         f · d(c) − f · p · d(v), the whole formula
--- In thousandths f is `whole` and f · p is `cachable`, in a file of either version.
+-- In thousandths f is `whole` and f · p is `cachable`, in a file of any version.
 use mathlib.Core.Path.{_≡_}
 use mathlib.Core.Bool.{true, cond}
 use mathlib.Core.List.{List}
@@ -68,7 +68,7 @@ pub record SituationsLawful (t : Tree) (d : Demand) : Type 0 where
   -- of the four the client's situation holds, and no other does
   pub situationSaid : (k : List ℕ) (c : ℕ) → isSet t k ≡ true → Holds t d k c (situation t d k c)
   pub situationOnly : (k : List ℕ) (c : ℕ) (x : Situation) → isSet t k ≡ true → Holds t d k c x → x ≡ situation t d k c
-  -- in version 1 nothing is cachable at hit 0 and everything at hit 1,000, in version 2 no byte and all of the flow; at flow 0 both
+  -- in version 1 nothing is cachable at hit 0 and everything at hit 1,000, from version 2 on no byte and all of the flow; at flow 0 both
   -- are so, whatever the hit, and `nothing` is the first
   pub ratioNothing : (c p : ℕ) → d .share c ≡ ratio p → cachable d c ≡ 0 ↔ ((d .flow c ≡ 0) ⊎ (p ≡ 0))
   pub ratioEverything : (c p : ℕ) → d .share c ≡ ratio p → cachable d c ≡ whole d c ↔ ((d .flow c ≡ 0) ⊎ (p ≡ 1000))

@@ -1,4 +1,5 @@
--- Document 01, "Order of ties", and the rank of a set: by total, then in the order of ties.
+-- Document 01, "Order of ties", and the rank of a set: by total, then in the order of ties. With 02, item 9 it is the sets that have
+-- open nodes only: the visit is 01's.
 use mathlib.Core.Bool.{Bool, true, false, _&&_, _||_}
 use mathlib.Core.List.{List, [], _∷_}
 use Prim.Native.Nat.{ℕ}
@@ -30,7 +31,7 @@ module _ (t : Tree) where
   visits k l [] = false
   visits k l (v ∷ vs) = smallerFirst (members l v) (members k v) (havingFirst (has k v) (has l v) (visits k l vs))
 
-  -- of sets with equal totals: fewest nodes, then the visit of nodes 1, 2, ..
+  -- of sets with equal totals: fewest nodes, then the visit of nodes 1, 2, .., closed ones too
   unfoldable pub tiesBefore : List ℕ → List ℕ → Bool
   tiesBefore k l = smallerFirst (length k) (length l) (visits k l (sites t))
 

@@ -3,7 +3,7 @@ use mathlib.Core.Bool.{Bool}
 use mathlib.Core.List.{List, [], _∷_}
 use Prim.Native.Nat.{ℕ, zero, suc, _-_}
 use lib.ListN.{length}
-use Rattle.laws.specs.Lists.{range, sum, greatest, has}
+use Rattle.laws.specs.Lists.{range, sum, greatest, has, those}
 use Rattle.model.specs.File.{Tree}
 
 -- "Node 0 is the server"
@@ -24,6 +24,10 @@ module _ (t : Tree) where
   -- nodes 1 to n - 1: the server is never a site
   abbrev pub sites : List ℕ
   sites = range 1 (t .count - 1)
+
+  -- those where a cache may stand
+  abbrev pub openSites : List ℕ
+  openSites = those (t .isOpen) sites
 
   -- v, its parent, .. and the server. Records stand in preorder, so a parent's number is smaller and v links are enough.
   unfoldable pub route : ℕ → List ℕ

@@ -1,5 +1,5 @@
--- Document 01's worked cases that it does not mark *, and its numbers from elsewhere, with those of 02, items 2 and 4: each on a
--- file written out byte by byte (`Samples`), with the answer that the documents give.
+-- Document 01's worked cases that it does not mark *, and its numbers from elsewhere, with those of 02, items 2, 4 and 9: each on a
+-- file written out byte by byte (`Samples`), with the answer that the documents give. `VersionCases` has those of versions 2 and 3.
 use mathlib.Core.Path.{_≡_}
 use mathlib.Core.List.{List, [], _∷_, _++_, map}
 use Prim.Native.Nat.{ℕ}
@@ -12,17 +12,17 @@ use Rattle.model.specs.Calls.{Answer, answered, refused, after, checkNum
 use Rattle.model.specs.Report.{setOfRow, ReportMemory, DemandThree, reportVerdict, ReportCall, verdictWithin, textWithin, programVerdict, programText}
 use Rattle.model.specs.Hosts.{codeOf, wordsAsked, HostBillMemory, hostBillVerdict, HostBillCall}
 use Rattle.model.specs.Cases.{treeA}
-use Rattle.model.specs.Samples.{fileA, header, tenBytes, serverRecord, oneNode, twoNodes, chained, secondA, largest, secondHeader, twelveBytes, secondOneNode, secondTwoNodes, secondChained, secondLargest, threeSevenths, tooMuch, eachKind, secondEachKind, tooLong}
-use Rattle.model.specs.Versions.{BothVersions}
+use Rattle.model.specs.Samples.{fileA, header, tenBytes, serverRecord, oneNode, twoNodes, chained, largest, tooLong, eachKind, secondA, secondHeader, secondChained, threeSevenths, tooMuch, secondEachKind, thirdA, thirdHeader, lastByte, billMemory, hostBillMemory, planMemory, greedyMemory, reportMemory}
+use Rattle.model.specs.VersionCases.{SecondCases, ThirdCases}
 use Rattle.model.specs.Situations.{Situation, noCache, nothing, everything, partly, firstSituation, costIn, paperCost, situation}
 
 -- ---- questions 1 to 11
 
 pub record FileCases : Type 0 where
-  -- "one table gives each its offset, width and largest value": parent, length, flow, hit, cachable bytes
-  pub offsets : map (λ f. f .offset) fieldTable ≡ 0 ∷ 2 ∷ 4 ∷ 8 ∷ 8 ∷ []
-  pub widths : map (λ f. f .width) fieldTable ≡ 2 ∷ 2 ∷ 4 ∷ 2 ∷ 4 ∷ []
-  pub mosts : map (λ f. f .most) fieldTable ≡ 1023 ∷ 1000 ∷ 100_000_000 ∷ 1000 ∷ 100_000_000 ∷ []
+  -- "one table gives each its offset, width and largest value": parent, length, flow, hit, cachable bytes, last byte
+  pub offsets : map (λ f. f .offset) fieldTable ≡ 0 ∷ 2 ∷ 4 ∷ 8 ∷ 8 ∷ 12 ∷ []
+  pub widths : map (λ f. f .width) fieldTable ≡ 2 ∷ 2 ∷ 4 ∷ 2 ∷ 4 ∷ 1 ∷ []
+  pub mosts : map (λ f. f .most) fieldTable ≡ 1023 ∷ 1000 ∷ 100_000_000 ∷ 1000 ∷ 100_000_000 ∷ 1 ∷ []
   -- the bytes of tree A as the starred cases have them
   pub bytesOfA : treeA 20 1000 5 800 ≡ fileA
   pub fileAPasses : fileVerdict fileA ≡ passed
@@ -33,9 +33,9 @@ pub record FileCases : Type 0 where
   pub markFirst : fileVerdict (0x4A ∷ drop 1 fileA) ≡ broken 2 0
   pub markSecond : fileVerdict (0x4B ∷ 0x53 ∷ drop 2 fileA) ≡ broken 2 0
   pub markThird : fileVerdict (0x4B ∷ 0x54 ∷ 0x51 ∷ drop 3 fileA) ≡ broken 2 0
-  -- versions 0, 3 and 257
+  -- versions 0, 4 and 257
   pub versionNone : fileVerdict (0x4B ∷ 0x54 ∷ 0x52 ∷ 0x00 ∷ 0x00 ∷ drop 5 fileA) ≡ broken 3 0
-  pub versionThree : fileVerdict (0x4B ∷ 0x54 ∷ 0x52 ∷ 0x00 ∷ 0x03 ∷ drop 5 fileA) ≡ broken 3 0
+  pub versionFour : fileVerdict (0x4B ∷ 0x54 ∷ 0x52 ∷ 0x00 ∷ 0x04 ∷ drop 5 fileA) ≡ broken 3 0
   pub versionHigh : fileVerdict (0x4B ∷ 0x54 ∷ 0x52 ∷ 0x01 ∷ 0x01 ∷ drop 5 fileA) ≡ broken 3 0
   -- "n 0: 4; n 1,024 passes, 1,025: 4. k 33: 5": on nine bytes, where a file that passes 4 and 5 gets 6
   pub noNodes : fileVerdict (header 0x00 0x00 0x00 0x00) ≡ broken 4 0
@@ -84,100 +84,6 @@ pub record FileCases : Type 0 where
   pub serverClient : fileVerdict (oneNode (tenBytes 0x00 0x00 0x00 0x00 0x05 0xF5 0xE1 0x00 0x03 0xE8)) ≡ passed
   pub serverFlow : fileVerdict (oneNode (tenBytes 0x00 0x00 0x00 0x00 0x05 0xF5 0xE1 0x01 0x00 0x00)) ≡ broken 10 0
   pub serverHit : fileVerdict (oneNode (tenBytes 0x00 0x00 0x00 0x00 0x00 0x00 0x00 0x00 0x03 0xE9)) ≡ broken 11 0
-
--- ---- lent memory
-
--- of so many entries in each buffer, every entry 7
-abbrev pub billMemory : ℕ → ℕ → BillMemory
-billMemory servings loads = record { servings = replicate servings 7; loads = replicate loads 7 }
-
-abbrev pub hostBillMemory : ℕ → ℕ → ℕ → HostBillMemory
-hostBillMemory totals servings loads =
-    record { totals = replicate totals 7; servings = replicate servings 7; loads = replicate loads 7 }
-
-abbrev pub planMemory : ℕ → ℕ → ℕ → PlanMemory
-planMemory scratch totals rows = record { scratch = replicate scratch 7; totals = replicate totals 7; rows = replicate rows 7 }
-
-abbrev pub greedyMemory : ℕ → ℕ → ℕ → GreedyMemory
-greedyMemory scratch totals nodes =
-    record { scratch = replicate scratch 7; totals = replicate totals 7; nodes = replicate nodes 7 }
-
-abbrev pub reportMemory : ℕ → ℕ → ℕ → ℕ → ℕ → ReportMemory
-reportMemory scratch planTotals planRows greedyTotals greedyNodes =
-    record {
-      scratch = replicate scratch 7;
-      planTotals = replicate planTotals 7;
-      planRows = replicate planRows 7;
-      greedyTotals = replicate greedyTotals 7;
-      greedyNodes = replicate greedyNodes 7;
-    }
-
--- ---- 02, item 2: questions 1 to 10 and 17 of a file with cachable bytes, and its bill and plan
-
-pub record SecondCases : Type 0 where
-  pub secondAPasses : fileVerdict secondA ≡ passed
-  -- 6 by the longer record: a byte too many, too few; version 2 over the length of version 1, and the other way round
-  pub byteOver : fileVerdict (secondA ++ (0x00 ∷ [])) ≡ broken 6 0
-  pub byteUnder : fileVerdict (take 68 secondA) ≡ broken 6 0
-  pub shortRecords : fileVerdict (0x4B ∷ 0x54 ∷ 0x52 ∷ 0x00 ∷ 0x02 ∷ drop 5 fileA) ≡ broken 6 0
-  pub longRecords : fileVerdict (0x4B ∷ 0x54 ∷ 0x52 ∷ 0x00 ∷ 0x01 ∷ drop 5 secondA) ≡ broken 6 0
-  -- versions 3 and 258
-  pub versionThree : fileVerdict (0x4B ∷ 0x54 ∷ 0x52 ∷ 0x00 ∷ 0x03 ∷ drop 5 secondA) ≡ broken 3 0
-  pub versionHigh : fileVerdict (0x4B ∷ 0x54 ∷ 0x52 ∷ 0x01 ∷ 0x02 ∷ drop 5 secondA) ≡ broken 3 0
-  -- 4 and 5 as in version 1
-  pub noNodes : fileVerdict (secondHeader 0x00 0x00 0x00 0x21) ≡ broken 4 0
-  pub mostNodesAndBudget : fileVerdict (secondHeader 0x04 0x00 0x00 0x20) ≡ broken 6 0
-  pub nodesOver : fileVerdict (secondHeader 0x04 0x01 0x00 0x00) ≡ broken 4 0
-  pub budgetOver : fileVerdict (secondHeader 0x00 0x01 0x00 0x21) ≡ broken 5 0
-  -- "cachable bytes exceed the flow": all of the flow passes, one more does not, and each of the four bytes counts
-  pub largestPass : fileVerdict secondLargest ≡ passed
-  pub oneMore : fileVerdict tooMuch ≡ broken 17 1
-  pub secondByte : fileVerdict (secondTwoNodes (twelveBytes 0x00 0x00 0x00 0x00 0x00 0x00 0x00 0x07 0x00 0x00 0x01 0x00)) ≡ broken 17 1
-  pub thirdByte : fileVerdict (secondTwoNodes (twelveBytes 0x00 0x00 0x00 0x00 0x00 0x00 0x00 0x07 0x00 0x01 0x00 0x00)) ≡ broken 17 1
-  pub fourthByte : fileVerdict (secondTwoNodes (twelveBytes 0x00 0x00 0x00 0x00 0x00 0x00 0x00 0x07 0x01 0x00 0x00 0x00)) ≡ broken 17 1
-  -- 17 stands in the place of 11: cachable bytes above 1,000 pass, and 7 to 10 come first
-  pub elevenNotAsked : fileVerdict (secondTwoNodes (twelveBytes 0x00 0x00 0x00 0x00 0x00 0x00 0x03 0xE9 0x00 0x00 0x03 0xE9)) ≡ passed
-  pub parentFirst : fileVerdict (secondTwoNodes (twelveBytes 0x00 0x01 0x00 0x00 0x00 0x00 0x00 0x00 0x00 0x00 0x00 0x01)) ≡ broken 7 1
-  pub lengthFirst : fileVerdict (secondTwoNodes (twelveBytes 0x00 0x00 0x03 0xE9 0x00 0x00 0x00 0x00 0x00 0x00 0x00 0x01)) ≡ broken 9 1
-  pub flowFirst : fileVerdict (secondTwoNodes (twelveBytes 0x00 0x00 0x00 0x00 0x05 0xF5 0xE1 0x01 0x05 0xF5 0xE1 0x02)) ≡ broken 10 1
-  -- and before the next record
-  pub nodeByNode : fileVerdict (secondHeader 0x00 0x03 0x00 0x01 ++ replicate 12 0x00
-      ++ twelveBytes 0x00 0x00 0x00 0x00 0x00 0x00 0x00 0x00 0x00 0x00 0x00 0x01
-      ++ twelveBytes 0x00 0x02 0x00 0x00 0x00 0x00 0x00 0x00 0x00 0x00 0x00 0x00) ≡ broken 17 1
-  pub laterRecord : fileVerdict (take 68 secondA ++ (0x06 ∷ [])) ≡ broken 17 4
-  -- node 0 too
-  pub serverClient : fileVerdict (secondOneNode (twelveBytes 0x00 0x00 0x00 0x00 0x05 0xF5 0xE1 0x00 0x05 0xF5 0xE1 0x00)) ≡ passed
-  pub serverCachable : fileVerdict (secondOneNode (twelveBytes 0x00 0x00 0x00 0x00 0x00 0x00 0x00 0x00 0x00 0x00 0x00 0x01)) ≡ broken 17 0
-  -- "for the C host too"
-  pub checkOfAccepted : checkNumber secondA ≡ 0
-  pub checkOfRefused : checkNumber tooMuch ≡ 17
-  -- "the service hands back 12 bytes"
-  pub lastRecord : recordBytes secondA 4 ≡ 0x00 ∷ 0x00 ∷ 0x00 ∷ 0x04 ∷ 0x00 ∷ 0x00 ∷ 0x00 ∷ 0x05 ∷ 0x00 ∷ 0x00 ∷ 0x00 ∷ 0x04 ∷ []
-  pub recordPast : recordBytes secondA 5 ≡ []
-  -- 1,000 × (7 × 3 − 3 × 3), and 1,000 × (7 − 3) on the link
-  pub sevenths : total (treeOf threeSevenths) (demandOf threeSevenths) [] ≡ 21000
-  pub seventhsServed : total (treeOf threeSevenths) (demandOf threeSevenths) (1 ∷ []) ≡ 12000
-  pub loadsOfNone : linkLoads threeSevenths [] ≡ 0 ∷ 7000 ∷ []
-  pub loadsOfOne : linkLoads threeSevenths (1 ∷ []) ≡ 0 ∷ 4000 ∷ []
-  pub largestTotal : total (treeOf secondLargest) (demandOf secondLargest) [] ≡ 100_000_000_000_000
-  pub largestSaved : total (treeOf secondLargest) (demandOf secondLargest) (1 ∷ []) ≡ 0
-  -- 12, 13 and 14 after 17
-  pub seventeenFirst : billVerdict tooMuch (5 ∷ []) (billMemory 0 0) ≡ broken 17 1
-  pub setOver : billVerdict secondA (5 ∷ []) (billMemory 0 0) ≡ broken 12 0
-  pub loadsShort : billVerdict secondA (4 ∷ []) (billMemory 5 4) ≡ broken 14 0
-  pub planPasses : planVerdict secondA (planMemory 65 3 6) ≡ passed
-  pub planScratchShort : planVerdict secondA (planMemory 64 0 0) ≡ broken 13 0
-  pub planRowsShort : planVerdict secondA (planMemory 65 3 5) ≡ broken 14 0
-  -- what the plan and the greedy rule write
-  pub totalsOfPlan : planTotals secondA ≡ 140000 ∷ 60000 ∷ 20000 ∷ []
-  pub rowsOfPlan : planRows secondA ≡ 0 ∷ 0 ∷ 1 ∷ 0 ∷ 2 ∷ 3 ∷ []
-  pub totalsOfGreedy : greedyTotals secondA ≡ 140000 ∷ 60000 ∷ 40000 ∷ []
-  pub wordsOfSecondA : wordsAsked secondA ≡ 65
-  -- 12,297 bytes pass 6, where node 0 has parent 1; one byte less does not
-  pub longestFile : fileVerdict (secondHeader 0x04 0x00 0x00 0x20 ++ (0x00 ∷ 0x01 ∷ replicate 12286 0x00)) ≡ broken 7 0
-  pub longestShort : fileVerdict (secondHeader 0x04 0x00 0x00 0x20 ++ replicate 12287 0x00) ≡ broken 6 0
-  -- tree A in both versions: the laws of a file in both have a case
-  pub bothVersions : BothVersions fileA secondA
 
 -- ---- 02, item 4: the situation of each node's client, and its cost
 
@@ -340,6 +246,30 @@ pub record StatementCases : Type 0 where
       × (memory′ .greedyTotals ≡ 21000 ∷ 12000 ∷ 7 ∷ [])
       × (memory′ .greedyNodes ≡ 1 ∷ 7 ∷ [])
       × DemandThree threeSevenths memory′
+  -- and on one of version 3, whose node 1 is closed
+  pub billOfClosed : {a : Answer ℕ} {memory memory′ : BillMemory} → BillCall thirdA (1 ∷ []) memory a memory′
+      → (a ≡ refused 12 0) × (memory′ .servings ≡ memory .servings) × (memory′ .loads ≡ memory .loads)
+  pub hostBillOfClosed : {v : Verdict} {memory memory′ : HostBillMemory} → HostBillCall thirdA (1 ∷ 2 ∷ []) memory v memory′
+      → (v ≡ broken 12 0)
+      × (memory′ .totals ≡ memory .totals) × (memory′ .servings ≡ memory .servings) × (memory′ .loads ≡ memory .loads)
+  pub planOfThird : {v : Verdict} {memory′ : PlanMemory} → PlanCall thirdA (planMemory 66 4 7) v memory′
+      → (v ≡ passed)
+      × (length (memory′ .scratch) ≡ 66) × (drop 65 (memory′ .scratch) ≡ 7 ∷ [])
+      × (memory′ .totals ≡ 140000 ∷ 80000 ∷ 20000 ∷ 7 ∷ [])
+      × (memory′ .rows ≡ 0 ∷ 0 ∷ 2 ∷ 0 ∷ 2 ∷ 3 ∷ 7 ∷ [])
+  pub greedyOfThird : {v : Verdict} {memory′ : GreedyMemory} → GreedyCall thirdA (greedyMemory 66 4 3) v memory′
+      → (v ≡ passed)
+      × (length (memory′ .scratch) ≡ 66) × (drop 65 (memory′ .scratch) ≡ 7 ∷ [])
+      × (memory′ .totals ≡ 140000 ∷ 80000 ∷ 20000 ∷ 7 ∷ [])
+      × (memory′ .nodes ≡ 2 ∷ 3 ∷ 7 ∷ [])
+  pub reportOfThird : {v : Verdict} {memory′ : ReportMemory} → ReportCall thirdA (reportMemory 66 4 7 4 3) v memory′
+      → (v ≡ passed)
+      × (length (memory′ .scratch) ≡ 66) × (drop 65 (memory′ .scratch) ≡ 7 ∷ [])
+      × (memory′ .planTotals ≡ 140000 ∷ 80000 ∷ 20000 ∷ 7 ∷ [])
+      × (memory′ .planRows ≡ 0 ∷ 0 ∷ 2 ∷ 0 ∷ 2 ∷ 3 ∷ 7 ∷ [])
+      × (memory′ .greedyTotals ≡ 140000 ∷ 80000 ∷ 20000 ∷ 7 ∷ [])
+      × (memory′ .greedyNodes ≡ 2 ∷ 3 ∷ 7 ∷ [])
+      × DemandThree thirdA memory′
   pub billRefused : {a : Answer ℕ} {memory memory′ : BillMemory} → BillCall tooLong [] memory a memory′
       → (a ≡ refused 9 1) × (memory′ .servings ≡ memory .servings) × (memory′ .loads ≡ memory .loads)
   pub hostBillSettled : {v : Verdict} {memory′ : HostBillMemory} → HostBillCall fileA (1 ∷ []) (hostBillMemory 2 6 6) v memory′
@@ -393,7 +323,13 @@ pub record ProgramCases : Type 0 where
   -- tree A in version 2, and `refused 17 1`
   pub reportOfSecondA : programText secondA ≡ programText fileA
   pub refusalOfCachable : programText tooMuch ≡ 0x72 ∷ 0x65 ∷ 0x66 ∷ 0x75 ∷ 0x73 ∷ 0x65 ∷ 0x64 ∷ 0x20 ∷ 0x31 ∷ 0x37 ∷ 0x20 ∷ 0x31 ∷ 0x0A ∷ []
-  -- the first look of 01 and of law textKept, 650 bytes
+  -- tree A in version 3, with node 1 closed, and `refused 24 1`
+  pub reportOfThirdA : programText thirdA
+      ≡ (0x30 ∷ 0x20 ∷ 0x31 ∷ 0x34 ∷ 0x30 ∷ 0x30 ∷ 0x30 ∷ 0x30 ∷ 0x20 ∷ 0x31 ∷ 0x34 ∷ 0x30 ∷ 0x30 ∷ 0x30 ∷ 0x30 ∷ 0x0A ∷ [])
+      ++ (0x31 ∷ 0x20 ∷ 0x38 ∷ 0x30 ∷ 0x30 ∷ 0x30 ∷ 0x30 ∷ 0x20 ∷ 0x38 ∷ 0x30 ∷ 0x30 ∷ 0x30 ∷ 0x30 ∷ 0x20 ∷ 0x32 ∷ 0x0A ∷ [])
+      ++ (0x32 ∷ 0x20 ∷ 0x32 ∷ 0x30 ∷ 0x30 ∷ 0x30 ∷ 0x30 ∷ 0x20 ∷ 0x32 ∷ 0x30 ∷ 0x30 ∷ 0x30 ∷ 0x30 ∷ 0x20 ∷ 0x32 ∷ 0x20 ∷ 0x33 ∷ 0x0A ∷ [])
+  pub refusalOfOpen : programText (lastByte 0x02) ≡ 0x72 ∷ 0x65 ∷ 0x66 ∷ 0x75 ∷ 0x73 ∷ 0x65 ∷ 0x64 ∷ 0x20 ∷ 0x32 ∷ 0x34 ∷ 0x20 ∷ 0x31 ∷ 0x0A ∷ []
+  -- the first look of 01 and of law firstTextKept, 650 bytes
   pub formerPasses : verdictWithin 650 fileA ≡ passed
   pub formerLookOver : verdictWithin 650 (replicate 650 0x00) ≡ broken 15 0
   pub formerLookWithin : verdictWithin 650 (replicate 649 0x00) ≡ broken 2 0
@@ -401,23 +337,41 @@ pub record ProgramCases : Type 0 where
       ≡ 0x72 ∷ 0x65 ∷ 0x66 ∷ 0x75 ∷ 0x73 ∷ 0x65 ∷ 0x64 ∷ 0x20 ∷ 0x31 ∷ 0x35 ∷ 0x20 ∷ 0x30 ∷ 0x0A ∷ []
   pub formerTextWithin : textWithin 650 (fileA ++ replicate 590 0x00)
       ≡ 0x72 ∷ 0x65 ∷ 0x66 ∷ 0x75 ∷ 0x73 ∷ 0x65 ∷ 0x64 ∷ 0x20 ∷ 0x36 ∷ 0x20 ∷ 0x30 ∷ 0x0A ∷ []
-  -- "the program's first look is 778 bytes", and if all 778 exist "it answers 15 before question 1"
-  pub lookOver : programVerdict (replicate 778 0x00) ≡ broken 15 0
-  pub lookWithin : programVerdict (replicate 777 0x00) ≡ broken 2 0
+  -- that of 02, item 2, 778 bytes
+  pub secondPasses : verdictWithin 778 secondA ≡ passed
+  pub secondLookOver : verdictWithin 778 (replicate 778 0x00) ≡ broken 15 0
+  pub secondLookWithin : verdictWithin 778 (replicate 777 0x00) ≡ broken 2 0
+  -- "the program's first look is 842 bytes", and if all 842 exist "it answers 15 before question 1"
+  pub lookOver : programVerdict (replicate 842 0x00) ≡ broken 15 0
+  pub lookWithin : programVerdict (replicate 841 0x00) ≡ broken 2 0
   -- `refused 15 0`
-  pub textOver : programText (fileA ++ replicate 719 0x00)
+  pub textOver : programText (fileA ++ replicate 783 0x00)
       ≡ 0x72 ∷ 0x65 ∷ 0x66 ∷ 0x75 ∷ 0x73 ∷ 0x65 ∷ 0x64 ∷ 0x20 ∷ 0x31 ∷ 0x35 ∷ 0x20 ∷ 0x30 ∷ 0x0A ∷ []
-  -- "n at most 64, h at most 8 and k at most 8", asked "right after 11"; 65 nodes of version 1 have 659 bytes
+  -- "n at most 64, h at most 8 and k at most 8", asked "right after 11"; 65 nodes of version 1 have 659 bytes,
+  -- 83 have 839, 69 of version 2 have 837 and 64 of version 3 have 841
   pub nodesWithin : programVerdict (header 0x00 0x40 0x00 0x08 ++ replicate 640 0x00) ≡ passed
   pub nodesWithinInSecond : programVerdict (secondHeader 0x00 0x40 0x00 0x08 ++ replicate 768 0x00) ≡ passed
+  pub nodesWithinInThird : programVerdict (thirdHeader 0x00 0x40 0x00 0x08 ++ replicate 832 0x00) ≡ passed
   pub nodesBeyond : programVerdict (header 0x00 0x41 0x00 0x08 ++ replicate 650 0x00) ≡ broken 15 0
+  pub nodesFarBeyond : programVerdict (header 0x00 0x53 0x00 0x08 ++ replicate 830 0x00) ≡ broken 15 0
+  pub nodesBeyondInSecond : programVerdict (secondHeader 0x00 0x41 0x00 0x08 ++ replicate 780 0x00) ≡ broken 15 0
+  pub nodesFarBeyondInSecond : programVerdict (secondHeader 0x00 0x45 0x00 0x08 ++ replicate 828 0x00) ≡ broken 15 0
   pub heightWithin : programVerdict (header 0x00 0x09 0x00 0x08 ++ serverRecord ++ chained 8) ≡ passed
   pub heightBeyond : programVerdict (header 0x00 0x0A 0x00 0x08 ++ serverRecord ++ chained 9) ≡ broken 15 0
   pub budgetBeyond : programVerdict (header 0x00 0x01 0x00 0x09 ++ serverRecord) ≡ broken 15 0
   pub elevenBeforeNodes : programVerdict (header 0x00 0x41 0x00 0x08 ++ replicate 648 0x00 ++ (0x03 ∷ 0xE9 ∷ [])) ≡ broken 11 64
+  -- where the last record breaks a rule too: that rule within the look, 15 beyond it
+  pub elevenAtEnd : programVerdict (header 0x00 0x53 0x00 0x08 ++ replicate 828 0x00 ++ (0x03 ∷ 0xE9 ∷ [])) ≡ broken 11 82
+  pub elevenBeyond : programVerdict (header 0x00 0x54 0x00 0x08 ++ replicate 838 0x00 ++ (0x03 ∷ 0xE9 ∷ [])) ≡ broken 15 0
+  pub seventeenAtEnd : programVerdict (secondHeader 0x00 0x45 0x00 0x08 ++ replicate 827 0x00 ++ (0x01 ∷ [])) ≡ broken 17 68
+  pub seventeenBeyond : programVerdict (secondHeader 0x00 0x46 0x00 0x08 ++ replicate 839 0x00 ++ (0x01 ∷ [])) ≡ broken 15 0
+  pub twentyFourAtEnd : programVerdict (thirdHeader 0x00 0x40 0x00 0x08 ++ replicate 831 0x00 ++ (0x02 ∷ [])) ≡ broken 24 63
+  pub twentyFourBeyond : programVerdict (thirdHeader 0x00 0x41 0x00 0x08 ++ replicate 844 0x00 ++ (0x02 ∷ [])) ≡ broken 15 0
   pub heightWithinInSecond : programVerdict (secondHeader 0x00 0x09 0x00 0x08 ++ replicate 12 0x00 ++ secondChained 8) ≡ passed
   pub heightBeyondInSecond : programVerdict (secondHeader 0x00 0x0A 0x00 0x08 ++ replicate 12 0x00 ++ secondChained 9) ≡ broken 15 0
   pub budgetBeyondInSecond : programVerdict (secondHeader 0x00 0x01 0x00 0x09 ++ replicate 12 0x00) ≡ broken 15 0
+  pub budgetBeyondInThird : programVerdict (thirdHeader 0x00 0x01 0x00 0x09 ++ replicate 13 0x00) ≡ broken 15 0
+  pub twentyFourBeforeFifteen : programVerdict (thirdHeader 0x00 0x01 0x00 0x09 ++ replicate 12 0x00 ++ (0x02 ∷ [])) ≡ broken 24 0
   pub seventeenBeforeFifteen : programVerdict (secondHeader 0x00 0x01 0x00 0x09 ++ replicate 11 0x00 ++ (0x01 ∷ [])) ≡ broken 17 0
   pub elevenFirst : programVerdict (header 0x00 0x01 0x00 0x09 ++ tenBytes 0x00 0x00 0x00 0x00 0x00 0x00 0x00 0x00 0x03 0xE9) ≡ broken 11 0
 
@@ -425,6 +379,7 @@ pub record ProgramCases : Type 0 where
 pub record Worked : Type 0 where
   pub files : FileCases
   pub second : SecondCases
+  pub third : ThirdCases
   pub situations : SituationCases
   pub calls : CallCases
   pub statements : StatementCases

@@ -65,7 +65,7 @@ fn split_of(
     let sibling = node_words::sibling_of(s, x);
     let rest = table::line(s, tree, sibling, above);
     let part = fields::cachable_in(file, size, x);
-    let member = table::pays(file, size, part, s, x, x);
+    let member = table::pays_itself(file, size, part, s, x);
     let other = table::pays(file, size, part, s, x, serving);
     let most = most_below(x, sibling, m);
     let later = lines::later(cached, uncached, rest, member, other, m, most);

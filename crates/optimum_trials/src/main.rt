@@ -1,9 +1,10 @@
-// Sets the planner against full enumeration: on thousands of trees of at most six nodes, of either version and with ties of
-// every kind, it compares what the report holds at each budget, the bills of two sets and the rankings of many with a reference
-// that shares no code with the planner, and the report's buffers with those of the plan call and of the greedy call.
+// Sets the planner against full enumeration: on thousands of trees of at most six nodes, of every version, with ties of every kind
+// and with every pattern of closed nodes, it compares what the report holds at each budget, the bills of two sets and the rankings
+// of many with a reference that shares no code with the planner, and the report's buffers with those of the plan call and of the
+// greedy call.
 //
-// It writes a line for each difference, and last how many trees and rankings it went through, how many of these were of two sets
-// with equal totals, and how many refusals by rule 12.
+// It writes a line for each difference, and last how many trees, patterns of closed nodes and rankings it went through, how many
+// rankings were of two sets with equal totals, and how many refusals by rule 12.
 ghost use Prim.Native.Nat.{_≤_, _<_};
 use compare::Ranking;
 use libc::STDOUT_FILENO;
@@ -11,7 +12,10 @@ use placement::Billed;
 use small_trees::SmallTree;
 use tree_file::Ruling;
 
-const TREES: u64 = 6000;
+// The trees of the sequence, and how many of the first come again in version 3 with every pattern of closed nodes.
+const TREES: u64 = 9000;
+
+const TREES_AGAIN: u64 = 120;
 
 // ---- what differs
 
@@ -296,6 +300,41 @@ fn check_bill(i: u64, tree: SmallTree, set: u8, file: &[u8]) {
     }
 }
 
+// Is a bill refused by rule 12?
+fn has_no_bill(bill: Billed) -> bool {
+    match bill {
+        Billed::Refused(rule, record) => { if rule == 12 { record == 0 } else { false } }
+        Billed::Total(_) => false,
+    }
+}
+
+// A set that is not one of the tree's gets no bill, and the buffers stay as they were.
+fn check_no_bill(i: u64, file: &[u8], wrong: &[u16]) {
+    let mut servings = [7u16; 6];
+    let mut loads = [7u64; 6];
+    if !has_no_bill(placement::bill(file, wrong, &mut servings, &mut loads)) {
+        differs(
+            i,
+            small_trees::set_of(wrong) as usize,
+            b" refusal of the bill",
+        );
+    }
+    if !kept_from(&servings, 0) {
+        differs(
+            i,
+            small_trees::set_of(wrong) as usize,
+            b" serving node of a refusal",
+        );
+    }
+    if !trial_text::all_from(&loads, 0, 7) {
+        differs(
+            i,
+            small_trees::set_of(wrong) as usize,
+            b" load of a refusal",
+        );
+    }
+}
+
 // ---- the ranking of two sets
 
 // Does a ranking name the first set, if that one ranks first, and else the second?
@@ -335,26 +374,60 @@ fn check_ranking(i: u64, tree: SmallTree, one: u8, other: u8, file: &[u8]) {
     check_pair(i, file, &first[0..a], &second[0..b], leads);
 }
 
-// How many rankings were compared, and how many of them were of two sets with equal totals.
+// How many trees were gone through, how many rankings were compared, how many of these were of two sets with equal totals, and
+// how many refusals by rule 12 there were.
 struct Count {
+    trees: u64,
     rankings: u64,
     ties: u64,
+    refusals: u64,
+}
+
+const NO_COUNT: Count = Count {
+    trees: 0,
+    rankings: 0,
+    ties: 0,
+    refusals: 0,
+};
+
+// A tree more.
+fn with_tree(so_far: Count) -> Count {
+    Count {
+        trees: std::num::wrapping_add_u64(so_far.trees, 1),
+        rankings: so_far.rankings,
+        ties: so_far.ties,
+        refusals: so_far.refusals,
+    }
+}
+
+// 2 for two sets with equal totals, else 0.
+fn ties_of(tree: SmallTree, one: u8, other: u8) -> u64 {
+    if one == other {
+        return 0;
+    }
+    if small_plans::total(tree, one) == small_plans::total(tree, other) {
+        return 2;
+    }
+    0
 }
 
 // Two rankings more, of these two sets.
 fn counted(so_far: Count, tree: SmallTree, one: u8, other: u8) -> Count {
-    let rankings = std::num::wrapping_add_u64(so_far.rankings, 2);
-    if one != other {
-        if small_plans::total(tree, one) == small_plans::total(tree, other) {
-            return Count {
-                rankings,
-                ties: std::num::wrapping_add_u64(so_far.ties, 2),
-            };
-        }
-    }
     Count {
-        rankings,
+        trees: so_far.trees,
+        rankings: std::num::wrapping_add_u64(so_far.rankings, 2),
+        ties: std::num::wrapping_add_u64(so_far.ties, ties_of(tree, one, other)),
+        refusals: so_far.refusals,
+    }
+}
+
+// A wrong set more, with the refusals of a bill and of two rankings.
+fn with_refusals(so_far: Count) -> Count {
+    Count {
+        trees: so_far.trees,
+        rankings: so_far.rankings,
         ties: so_far.ties,
+        refusals: std::num::wrapping_add_u64(so_far.refusals, 3),
     }
 }
 
@@ -373,8 +446,9 @@ fn check_rankings(i: u64, tree: SmallTree, set: u8, file: &[u8], so_far: Count) 
     count
 }
 
-// A set that is not one of the tree's is refused, be it first or second, and nothing is handed back.
+// A set that is not one of the tree's has no bill and no rank, be it first or second, and nothing is handed back.
 fn check_refusals<'a>(i: u64, file: &[u8], set: &'a [u16], wrong: &'a [u16]) {
+    check_no_bill(i, file, wrong);
     if !is_refused(compare::rank(file, wrong, set)) {
         differs(i, 0, b" refusal of the first set");
     }
@@ -387,13 +461,46 @@ fn check_refusals<'a>(i: u64, file: &[u8], set: &'a [u16], wrong: &'a [u16]) {
 }
 
 // The server, and a node that the tree lacks, beside a set of the tree.
-fn check_wrong_sets(i: u64, tree: SmallTree, one: u8, file: &[u8]) {
+fn check_wrong_sets(i: u64, tree: SmallTree, one: u8, file: &[u8], so_far: Count) -> Count {
     let mut set = [0u16; 6];
     let a = small_trees::write_set(one, &mut set);
     let server = [0u16];
     let beyond = [(tree.nodes % 65536) as u16];
     check_refusals(i, file, &set[0..a], &server);
     check_refusals(i, file, &set[0..a], &beyond);
+    with_refusals(with_refusals(so_far))
+}
+
+// A set with a closed node, beside a set of the tree.
+fn check_closed_set(i: u64, one: u8, wrong: u8, file: &[u8], so_far: Count) -> Count {
+    let mut set = [0u16; 6];
+    let a = small_trees::write_set(one, &mut set);
+    let mut other = [0u16; 6];
+    let b = small_trees::write_set(wrong, &mut other);
+    check_refusals(i, file, &set[0..a], &other[0..b]);
+    with_refusals(so_far)
+}
+
+// Does the tree have node v, and is it closed?
+fn is_closed(tree: SmallTree, v: usize) -> bool {
+    if v < tree.nodes {
+        return !small_trees::record_of(tree, v).open;
+    }
+    false
+}
+
+// Each closed node, alone and with the nodes of a set.
+fn check_closed_nodes(i: u64, tree: SmallTree, one: u8, file: &[u8], so_far: Count) -> Count {
+    let mut count = so_far;
+    let mut v = 1;
+    while v < 6 {
+        if is_closed(tree, v) {
+            count = check_closed_set(i, one, small_trees::only(v), file, count);
+            count = check_closed_set(i, one, small_trees::with(one, v), file, count);
+        }
+        v += 1;
+    }
+    count
 }
 
 // ---- the trees
@@ -417,10 +524,9 @@ fn ranked_set(tree: SmallTree, i: u64, plan: u8) -> u8 {
     0
 }
 
-fn check_tree(i: u64, so_far: Count) -> Count {
-    let tree = small_trees::nth_tree(i);
+fn check_tree(i: u64, tree: SmallTree, so_far: Count) -> Count {
     let k = budget_of(tree);
-    let mut space = [0u8; 81];
+    let mut space = [0u8; 87];
     let n = small_trees::write_file(tree, &mut space);
     let file = &space[0..n];
     check_report(i, tree, k, file);
@@ -428,32 +534,77 @@ fn check_tree(i: u64, so_far: Count) -> Count {
     let taken = small_plans::greedy(tree, k);
     check_bill(i, tree, plan, file);
     check_bill(i, tree, taken, file);
-    check_wrong_sets(i, tree, plan, file);
-    check_rankings(i, tree, ranked_set(tree, i, plan), file, so_far)
+    let with_wrong = check_wrong_sets(i, tree, plan, file, with_tree(so_far));
+    let with_closed = check_closed_nodes(i, tree, plan, file, with_wrong);
+    check_rankings(i, tree, ranked_set(tree, i, plan), file, with_closed)
 }
 
 fn check_trees() -> Count {
-    let mut count = Count {
-        rankings: 0,
-        ties: 0,
-    };
+    let mut count = NO_COUNT;
     let mut i = 0;
     while i < TREES {
-        count = check_tree(i, count);
+        count = check_tree(i, small_trees::nth_tree(i), count);
         i += 1;
     }
     count
 }
 
+// ---- every pattern of closed nodes
+
+// How many patterns there are of so many nodes, the server among them.
+const PATTERNS: [u64; 7] = [1, 2, 4, 8, 16, 32, 64];
+
+// Are all the open nodes that a pattern says nodes of the tree?
+fn is_pattern(tree: SmallTree, open: u64) -> bool {
+    let nodes = tree.nodes;
+    if nodes < 7 {
+        return open < PATTERNS[nodes];
+    }
+    false
+}
+
+// Tree i in version 3 with every pattern. Where something differs it goes by a number past those of the sequence.
+fn check_tree_again(i: u64, so_far: Count) -> Count
+    requires { ⌜ i ≤ 10000 ⌝ }
+{
+    let mut count = so_far;
+    let mut open = 0;
+    while open < 64 {
+        let tree = small_trees::nth_tree_open_at(i, (open % 64) as u8);
+        if is_pattern(tree, open) {
+            count = check_tree(TREES + 64 * i + open, tree, count);
+        }
+        open += 1;
+    }
+    count
+}
+
+fn check_patterns() -> Count {
+    let mut count = NO_COUNT;
+    let mut i = 0;
+    while i < TREES_AGAIN {
+        count = check_tree_again(i, count);
+        i += 1;
+    }
+    count
+}
+
+// ---- the counts
+
+fn print_line(what: &[u8], number: u64) {
+    io::write_all(STDOUT_FILENO, what);
+    trial_text::print_number(number);
+    trial_text::end_line();
+}
+
+fn print_count(what: &[u8], count: Count) {
+    print_line(what, count.trees);
+    print_line(b"rankings", count.rankings);
+    print_line(b"rankings of sets with equal totals", count.ties);
+    print_line(b"refusals by rule 12", count.refusals);
+}
+
 fn main() {
-    let count = check_trees();
-    io::write_all(STDOUT_FILENO, b"trees");
-    trial_text::print_number(TREES);
-    io::write_all(STDOUT_FILENO, b"\nrankings");
-    trial_text::print_number(count.rankings);
-    io::write_all(STDOUT_FILENO, b"\nrankings of sets with equal totals");
-    trial_text::print_number(count.ties);
-    io::write_all(STDOUT_FILENO, b"\nrefusals by rule 12");
-    trial_text::print_number(4 * TREES);
-    io::write_all(STDOUT_FILENO, b"\n");
+    print_count(b"trees", check_trees());
+    print_count(b"patterns of closed nodes", check_patterns());
 }

@@ -8,17 +8,16 @@ use lib.ListN.{length}
 use borrow.Author.Tests.{le-leb, lt-leb}
 use Rattle.laws.proofs.Stores.{sets-front}
 use Rattle.model.specs.File.{treeOf, countOf}
-use Rattle.model.specs.Rules.{passed, broken, fileVerdict, ascends, isSet}
+use Rattle.model.specs.Rules.{passed, broken, fileVerdict, isSet}
 use Rattle.model.specs.Calls.{answered, refused, BillMemory, billVerdict, servingNodes, linkLoads, BillCall}
 use Rattle.model.proofs.Accepted.{accepted-sound}
-use Rattle.model.proofs.Ascending.{set-told}
 use Rattle.model.proofs.Written.{length-serving-nodes, length-link-loads}
 use Rattle.tree_file.proofs.Accepted.{accepted-long, accepted-in-file}
 use Rattle.placement.specs.Passes.{AcceptedFile, Billable, Walkable}
 use Rattle.placement.specs.Answers.{BillWritten}
 
 -- an accepted file, its n read from the header
-accepted-file : (file : List ℕ) {n : ℕ} → passed ≡ fileVerdict file → n ≡ countOf file → AcceptedFile file n
+pub accepted-file : (file : List ℕ) {n : ℕ} → passed ≡ fileVerdict file → n ≡ countOf file → AcceptedFile file n
 accepted-file file ok nodes =
     record {
       sound = accepted-sound file (sym ok);
@@ -28,8 +27,8 @@ accepted-file file ok nodes =
     }
 
 -- a set of its nodes
-pub set-of-file : (file k : List ℕ) {n : ℕ} → passed ≡ fileVerdict file → n ≡ countOf file → ascends 0 n k ≡ true → Billable file n k
-set-of-file file k ok nodes is-set = record { ofFile = accepted-file file ok nodes; ofNodes = set-told (treeOf file) k nodes is-set }
+pub set-of-file : (file k : List ℕ) {n : ℕ} → passed ≡ fileVerdict file → n ≡ countOf file → isSet (treeOf file) k ≡ true → Billable file n k
+set-of-file file k ok nodes is-set = record { ofFile = accepted-file file ok nodes; ofNodes = is-set }
 
 module _ (file k : List ℕ) (memory : BillMemory) where
   bill-refused : {q i : ℕ} → billVerdict file k memory ≡ broken q i → BillCall file k memory (refused q i) memory
@@ -42,22 +41,19 @@ module _ (file k : List ℕ) (memory : BillMemory) where
 
   module _ {n : ℕ} (ok : passed ≡ fileVerdict file) (nodes : n ≡ countOf file) where
     -- rule 12
-    pub bill-refused-set : ascends 0 n k ≡ false → BillCall file k memory (refused 12 0) memory
+    pub bill-refused-set : isSet (treeOf file) k ≡ false → BillCall file k memory (refused 12 0) memory
     unfolding billVerdict
-    bill-refused-set e = bill-refused (rw (sym ok, set-told (treeOf file) k nodes e))
+    bill-refused-set e = bill-refused (rw (sym ok, e))
 
-    module _ (is-set : ascends 0 n k ≡ true) where
-      in-tree : isSet (treeOf file) k ≡ true
-      in-tree = set-told (treeOf file) k nodes is-set
-
+    module _ (is-set : isSet (treeOf file) k ≡ true) where
       -- rule 14
       pub bill-refused-servings : length (memory .servings) < n → BillCall file k memory (refused 14 0) memory
       unfolding billVerdict
-      bill-refused-servings h = bill-refused (rw (sym ok, in-tree, lt-leb (countOf file) (length (memory .servings)) (omega arith)))
+      bill-refused-servings h = bill-refused (rw (sym ok, is-set, lt-leb (countOf file) (length (memory .servings)) (omega arith)))
 
       pub bill-refused-loads : length (memory .loads) < n → BillCall file k memory (refused 14 0) memory
       unfolding billVerdict
-      bill-refused-loads h = bill-refused (rw (sym ok, in-tree, lt-leb (countOf file) (length (memory .loads)) (omega arith), and-false))
+      bill-refused-loads h = bill-refused (rw (sym ok, is-set, lt-leb (countOf file) (length (memory .loads)) (omega arith), and-false))
 
       module _ (h : n ≤ length (memory .servings)) (g : n ≤ length (memory .loads)) where
         pub buffers-walkable : Walkable file n (memory .servings) (memory .loads)
@@ -69,7 +65,7 @@ module _ (file k : List ℕ) (memory : BillMemory) where
         unfolding billVerdict
         bill-answered w =
             let all : billVerdict file k memory ≡ passed =
-            rw (sym ok, in-tree, le-leb (countOf file) (length (memory .servings)) (omega arith), le-leb (countOf file) (length (memory .loads)) (omega arith)) in
+            rw (sym ok, is-set, le-leb (countOf file) (length (memory .servings)) (omega arith), le-leb (countOf file) (length (memory .loads)) (omega arith)) in
             record {
               answers = rw all (ap answered (w .totalIs));
               servingsAfter = rw all (w .servingsAre ∙ sets-front (memory .servings) (servingNodes file k) (omega (arith, length-serving-nodes file k)));

@@ -1,6 +1,6 @@
--- Laws of loops over a set: rule 12 from its front, and a cursor that meets each member as the node number goes up.
+-- Laws of loops over a set: rule 12 from its front, first that it ascends and then that it is open, and a cursor that meets each member as the node number goes up.
 use mathlib.Core.Path.{_≡_, refl, sym, _∙_}
-use mathlib.Core.Bool.{true, false, or-false}
+use mathlib.Core.Bool.{Bool, true, false, or-false}
 use mathlib.Core.List.{List, [], _∷_}
 use Prim.Native.Nat.{ℕ, zero, suc, _+_, _≤_, _<_}
 use native.Mathlib.Numerals.{add-one}
@@ -10,7 +10,7 @@ use lib.Dec.{ltb, eqb}
 use lib.ListN.{length, getD, drop, List·getD-eq-default}
 use lib.Seq.{drop-cons, drop-nil}
 use borrow.Author.Tests.{lt-ltb, le-ltb, eq-eqb, ne-eqb}
-use Rattle.laws.specs.Lists.{has, howMany, bit}
+use Rattle.laws.specs.Lists.{has, allOf, howMany, bit}
 use Rattle.laws.proofs.Bools.{by-test}
 use Rattle.laws.proofs.Counts.{how-many-le}
 use Rattle.model.specs.Rules.{ascends}
@@ -38,6 +38,20 @@ module _ (n : ℕ) (k : List ℕ) (a i : ℕ) (so-far : ascends 0 n k ≡ ascend
   pub set-ends : length k ≤ i → ascends 0 n k ≡ true
   unfolding ascends
   set-ends h = so-far ∙ rw (past-end k i h)
+
+-- the first i members are open
+module _ (p : ℕ → Bool) (k : List ℕ) (i : ℕ) (so-far : allOf p k ≡ allOf p (drop i k)) where
+  pub open-goes-on : i < length k → p (getD k i 0) ≡ true → allOf p k ≡ allOf p (drop (i + 1) k)
+  unfolding allOf
+  open-goes-on h e = so-far ∙ rw (drop-cons k i 0 h, e, add-one i)
+
+  pub open-breaks : i < length k → p (getD k i 0) ≡ false → allOf p k ≡ false
+  unfolding allOf
+  open-breaks h e = so-far ∙ rw (drop-cons k i 0 h, e)
+
+  pub open-ends : length k ≤ i → allOf p k ≡ true
+  unfolding allOf
+  open-ends h = so-far ∙ rw (past-end k i h)
 
 -- ---- its size and its entries
 

@@ -4,9 +4,9 @@ ghost use mathlib.Core.Bool.{cond, true};
 ghost use Prim.Native.Nat.{_+_, _≤_, _<_, _^_};
 ghost use lib.ListN.{length};
 ghost use lib.Seq.{sets};
-ghost use Rattle.laws.specs.Lists.{has};
+ghost use Rattle.laws.specs.Lists.{has, allOf};
 ghost use Rattle.model.specs.File.{treeOf, demandOf};
-ghost use Rattle.model.specs.Rules.{ascends};
+ghost use Rattle.model.specs.Rules.{ascends, isSet};
 ghost use Rattle.model.specs.Bill.{total, totalLimit};
 ghost use Rattle.model.specs.Calls.{BillCall, servingNodes};
 ghost use Rattle.placement.specs.Passes.{membersBefore, selfServing, totalBefore, AcceptedFile, Billable, Walkable};
@@ -29,8 +29,8 @@ struct Walk {
 
 // ---- members of a set
 
-// Rule 12, for a tree of n nodes.
-pub fn is_set(set: &[u16], n: usize) -> bool
+// Do the members ascend, each from 1 to n − 1?
+fn ascending(set: &[u16], n: usize) -> bool
     ensures { λ r. ⌜ r ≡ ascends 0 n (now (set .entry)) ⌝ }
 {
     let mut last = 0;
@@ -47,6 +47,34 @@ pub fn is_set(set: &[u16], n: usize) -> bool
         i += 1;
     }
     true
+}
+
+// Is each member open?
+fn all_open(file: &[u8], n: usize, set: &[u16]) -> bool
+    requires { ⌜ AcceptedFile (now file) n ⌝ }
+    requires { ⌜ ascends 0 n (now set) ≡ true ⌝ }
+    ensures { λ r. ⌜ r ≡ allOf (treeOf (now (file .entry)) .isOpen) (now (set .entry)) ⌝ }
+{
+    let size = fields::record_length(file);
+    let mut i = 0;
+    while i < set.len() {
+        if !fields::open_in(file, size, set[i] as usize) {
+            return false;
+        }
+        i += 1;
+    }
+    true
+}
+
+// Rule 12.
+pub fn is_set(file: &[u8], n: usize, set: &[u16]) -> bool
+    requires { ⌜ AcceptedFile (now file) n ⌝ }
+    ensures { λ r. ⌜ r ≡ isSet (treeOf (now (file .entry))) (now (set .entry)) ⌝ }
+{
+    if !ascending(set, n) {
+        return false;
+    }
+    all_open(file, n, set)
 }
 
 // Is site v a member, where `cursor` members come before it?
@@ -211,7 +239,7 @@ pub fn bill(file: &[u8], set: &[u16], servings: &mut [u16], loads: &mut [u64]) -
     match ruling {
         tree_file::Ruling::Passed => {
             let n = fields::count_of(file);
-            if !is_set(set, n) {
+            if !is_set(file, n, set) {
                 return Billed::Refused(12, 0);
             }
             if servings.len() < n {

@@ -11,7 +11,7 @@ ghost use Rattle.program_report.specs.Memory.{reportOf};
 use tree_file::Checked;
 
 // The program looks at so many bytes of its input.
-pub const FIRST_LOOK: usize = 778;
+pub const FIRST_LOOK: usize = 842;
 
 // The limits of rule 15.
 const NODES: usize = 64;

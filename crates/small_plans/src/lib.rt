@@ -59,8 +59,8 @@ fn less(a: u64, b: u64) -> u64
     a - b
 }
 
-// What the client at c would cost, in thousandths, served at v: flow × (1,000 × d(c) − hit × d(v)), and in version 2
-// 1,000 × (flow × d(c) − cachable × d(v)).
+// What the client at c would cost, in thousandths, served at v: flow × (1,000 × d(c) − hit × d(v)), and from
+// version 2 on 1,000 × (flow × d(c) − cachable × d(v)).
 fn price(tree: SmallTree, c: usize, v: usize) -> u64
     ensures { λ r. ⌜ r ≤ 4294967295 * 327675000 ⌝ }
 {
@@ -120,7 +120,7 @@ pub fn serving(tree: SmallTree, set: u8, c: usize) -> usize {
     small_trees::member(met, (members - 1) as usize)
 }
 
-// What the client at c puts on a link where a cache serves it: flow × (1,000 − hit), and in version 2
+// What the client at c puts on a link where a cache serves it: flow × (1,000 − hit), and from version 2 on
 // 1,000 × (flow − cachable).
 fn served_load(tree: SmallTree, c: usize) -> u64
     ensures { λ r. ⌜ r ≤ 4294967295 * 1000 ⌝ }
@@ -214,7 +214,7 @@ fn order_at(tree: SmallTree, first: u8, second: u8, v: usize) -> Order {
     }
 }
 
-// The order of ties: fewest nodes, then by nodes 1, 2, and so on.
+// The order of ties: fewest nodes, then by nodes 1, 2, and so on, closed ones too.
 fn order_of_ties(tree: SmallTree, first: u8, second: u8) -> Order {
     let mut order = by_more(small_trees::size(second), small_trees::size(first));
     let mut v = 1;
@@ -247,16 +247,29 @@ pub fn ranks_first(tree: SmallTree, first: u8, second: u8) -> bool {
 // All nodes but the server, by how many nodes there are.
 const SITES: [u8; 7] = [0, 0, 2, 6, 14, 30, 62];
 
-// The nodes that a set of this tree may have.
-fn sites_of(tree: SmallTree) -> u8 {
-    let nodes = tree.nodes;
-    if nodes < 7 {
-        return SITES[nodes];
+// Node v if it is open, else no node.
+fn if_open(tree: SmallTree, v: usize) -> u8 {
+    if small_trees::record_of(tree, v).open {
+        return small_trees::only(v);
     }
     0
 }
 
-// Is a mask a set of at most so many of the tree's nodes, without the server?
+// The open nodes but the server.
+fn open_nodes(tree: SmallTree) -> u8 {
+    if_open(tree, 1) | if_open(tree, 2) | if_open(tree, 3) | if_open(tree, 4) | if_open(tree, 5)
+}
+
+// The nodes that a set of this tree may have.
+fn sites_of(tree: SmallTree) -> u8 {
+    let nodes = tree.nodes;
+    if nodes < 7 {
+        return SITES[nodes] & open_nodes(tree);
+    }
+    0
+}
+
+// Is a mask a set of at most so many of the tree's open nodes, without the server?
 pub fn is_choice(tree: SmallTree, mask: u8, budget: usize) -> bool {
     if mask & sites_of(tree) != mask {
         return false;
@@ -264,7 +277,7 @@ pub fn is_choice(tree: SmallTree, mask: u8, budget: usize) -> bool {
     small_trees::size(mask) as usize <= budget
 }
 
-// The plan's set for a budget: of all sets of at most so many nodes, the one that ranks first.
+// The plan's set for a budget: of all sets of at most so many open nodes, the one that ranks first.
 pub fn plan(tree: SmallTree, budget: usize) -> u8 {
     let mut best = 0;
     let mut mask = 1;
@@ -279,14 +292,22 @@ pub fn plan(tree: SmallTree, budget: usize) -> u8 {
     best
 }
 
+// The total with a cache at v too, or as it was where none may stand there.
+fn total_with(tree: SmallTree, set: u8, v: usize) -> u64 {
+    if small_trees::has(sites_of(tree), v) {
+        return total(tree, small_trees::with(set, v));
+    }
+    total(tree, set)
+}
+
 // The node that the greedy rule takes next: the smallest that gives the least total, or 0 where none lowers the total,
-// as no member of the set does and no node that the tree lacks.
+// as no member of the set does, no closed node and no node that the tree lacks.
 pub fn greedy_node(tree: SmallTree, set: u8) -> usize {
     let mut least = total(tree, set);
     let mut taken = 0;
     let mut v = 1;
     while v < 6 {
-        let other = total(tree, small_trees::with(set, v));
+        let other = total_with(tree, set, v);
         if other < least {
             least = other;
             taken = v;

@@ -5,12 +5,13 @@ ghost use Prim.Native.Nat.{_≤_};
 ghost use lib.ListN.{length};
 
 // What a tree file says of a node. The share of its flow that a cache can serve is a hit ratio in thousandths in version 1,
-// and cachable bytes in version 2.
+// and cachable bytes from version 2 on. A node is open where a cache may stand there: in versions 1 and 2 each node is.
 pub struct Record {
     parent: u16,
     pub length: u16,
     pub flow: u32,
     pub share: u32,
+    pub open: bool,
 }
 
 // A tree and the version of its file, with zeros for the nodes that it lacks.
@@ -27,6 +28,7 @@ const NO_RECORD: Record = Record {
     length: 0,
     flow: 0,
     share: 0,
+    open: false,
 };
 
 // Are the shares hit ratios?
@@ -159,25 +161,38 @@ fn quad(file: &[u8], at: usize) -> u32
     pair(file, at) as u32 * 65536 + pair(file, at + 2) as u32
 }
 
-// Where the record of node v begins: a record has ten bytes in version 1 and twelve in version 2.
+// Where the record of node v begins: a record has ten bytes in version 1, twelve in version 2 and thirteen in version 3.
 fn record_at(version: u16, v: usize) -> usize
     requires { ⌜ v ≤ 6 ⌝ }
-    ensures { λ r. ⌜ r ≤ 81 ⌝ }
+    ensures { λ r. ⌜ r ≤ 87 ⌝ }
 {
     if version == 1 {
         return 9 + 10 * v;
     }
-    9 + 12 * v
+    if version == 2 {
+        return 9 + 12 * v;
+    }
+    9 + 13 * v
 }
 
 // The share in the record that begins at `at`.
 fn read_share(file: &[u8], version: u16, at: usize) -> u32
-    requires { ⌜ at ≤ 81 ⌝ }
+    requires { ⌜ at ≤ 87 ⌝ }
 {
     if version == 1 {
         return pair(file, at + 8) as u32;
     }
     quad(file, at + 8)
+}
+
+// Is the node open whose record begins at `at`?
+fn read_open(file: &[u8], version: u16, at: usize) -> bool
+    requires { ⌜ at ≤ 87 ⌝ }
+{
+    if version < 3 {
+        return true;
+    }
+    byte(file, at + 12) == 1
 }
 
 // What a file says of node v, zeros past its end.
@@ -189,11 +204,13 @@ fn read_record(file: &[u8], version: u16, v: usize) -> Record
     let length = pair(file, at + 2);
     let flow = quad(file, at + 4);
     let share = read_share(file, version, at);
+    let open = read_open(file, version, at);
     Record {
         parent,
         length,
         flow,
         share,
+        open,
     }
 }
 
@@ -234,8 +251,13 @@ fn header(tree: SmallTree) -> [u8; 9] {
     ]
 }
 
-// The twelve bytes of a record of version 2.
-fn record_bytes(record: Record) -> [u8; 12] {
+// The byte of a node that is open or not.
+fn open_byte(open: bool) -> u8 {
+    if open { 1 } else { 0 }
+}
+
+// The thirteen bytes of a record of version 3; one of version 2 has all but the last.
+fn record_bytes(record: Record) -> [u8; 13] {
     let parent = record.parent;
     let length = record.length;
     let flow = record.flow;
@@ -253,6 +275,7 @@ fn record_bytes(record: Record) -> [u8; 12] {
         (share / 65536 % 256) as u8,
         (share / 256 % 256) as u8,
         (share % 256) as u8,
+        open_byte(record.open),
     ]
 }
 
@@ -269,7 +292,7 @@ fn with_long_share(place: usize) -> usize
 
 // Byte `place` of the record of node v.
 fn record_byte(tree: SmallTree, v: usize, place: usize) -> u8
-    requires { ⌜ place ≤ 11 ⌝ }
+    requires { ⌜ place ≤ 12 ⌝ }
 {
     let bytes = record_bytes(record_of(tree, v));
     bytes[place]
@@ -284,15 +307,18 @@ fn file_byte(tree: SmallTree, at: usize) -> u8 {
     if has_ratios(tree) {
         return record_byte(tree, (at - 9) / 10, with_long_share((at - 9) % 10));
     }
-    record_byte(tree, (at - 9) / 12, (at - 9) % 12)
+    if tree.version == 2 {
+        return record_byte(tree, (at - 9) / 12, (at - 9) % 12);
+    }
+    record_byte(tree, (at - 9) / 13, (at - 9) % 13)
 }
 
-// The size of the tree's file, at most 81 bytes.
+// The size of the tree's file, at most 87 bytes.
 fn file_size(tree: SmallTree) -> usize {
     if tree.nodes <= 6 {
         return record_at(tree.version, tree.nodes);
     }
-    81
+    87
 }
 
 // Writes the tree's file, as much as fits, at the start of `out`, and answers how many bytes there are.
@@ -382,7 +408,7 @@ fn parent_by(tree: SmallTree, v: usize, number: u64) -> u16 {
     (member(way, (number % choices) as usize) % 6) as u16
 }
 
-// A flow; in version 2 three times as large, so that a part of it is seldom a whole thousandth.
+// A flow; from version 2 on three times as large, so that a part of it is seldom a whole thousandth.
 fn flow_by(tree: SmallTree, number: u64, style: u64) -> u64
     ensures { λ r. ⌜ r ≤ 6 ⌝ }
 {
@@ -423,6 +449,14 @@ fn share_by(tree: SmallTree, number: u64, style: u64, flow: u64) -> u64
     cachable_by(number, style, flow)
 }
 
+// Is a node open? In version 3 two of three are.
+fn open_by(tree: SmallTree, number: u64) -> bool {
+    if tree.version < 3 {
+        return true;
+    }
+    number % 3 != 0
+}
+
 // A record for node v of a tree that has those before it.
 fn record_by(tree: SmallTree, v: usize, number: u64, style: u64) -> Record {
     let flow = flow_by(tree, number / 360, style / 3);
@@ -431,6 +465,7 @@ fn record_by(tree: SmallTree, v: usize, number: u64, style: u64) -> Record {
         length: length_by(v, number / 60, style) as u16,
         flow: flow as u32,
         share: share_by(tree, number / 2160, style / 9, flow) as u32,
+        open: open_by(tree, number / 64800),
     }
 }
 
@@ -465,8 +500,11 @@ fn grown(tree: SmallTree, v: usize, number: u64, style: u64) -> SmallTree {
     with_record(without_client(tree, record.parent as usize), v, record)
 }
 
-// One version as often as the other.
+// One version as often as another.
 fn version_by(number: u64) -> u16 {
+    if number % 6 < 2 {
+        return 3;
+    }
     1 + (number % 2) as u16
 }
 
@@ -480,20 +518,44 @@ fn bare_tree(version: u16, nodes: usize, budget: usize) -> SmallTree {
     }
 }
 
-// Tree i of a fixed sequence: either version, 1 to 6 nodes, a budget from 0 to 6, and records by the numbers that follow i.
-pub fn nth_tree(i: u64) -> SmallTree {
+// The number that tree i of the sequence begins with.
+fn first_number(i: u64) -> u64 {
+    after(after(i % 1000000 + 1))
+}
+
+// Tree i of a fixed sequence in this version: 1 to 6 nodes, a budget from 0 to 6, and records by the numbers that follow i.
+fn tree_by(version: u16, i: u64) -> SmallTree {
     let place = (i % 12) as usize;
-    let mut number = after(after(i % 1000000 + 1));
+    let mut number = first_number(i);
     let style = style_by(number / 7);
-    let mut tree = bare_tree(
-        version_by(number / 378),
-        COUNTS[place],
-        (number % 7) as usize,
-    );
+    let mut tree = bare_tree(version, COUNTS[place], (number % 7) as usize);
     let mut v = 0;
     while v < 6 {
         number = after(number);
         tree = grown(tree, v, number, style);
+        v += 1;
+    }
+    tree
+}
+
+// Tree i of a fixed sequence, of any version.
+pub fn nth_tree(i: u64) -> SmallTree {
+    tree_by(version_by(first_number(i) / 378), i)
+}
+
+// The tree with node v open or closed.
+fn opened(tree: SmallTree, v: usize, open: bool) -> SmallTree {
+    let mut record = record_of(tree, v);
+    record.open = open;
+    with_record(tree, v, record)
+}
+
+// Tree i of the sequence in version 3, of which just these nodes are open.
+pub fn nth_tree_open_at(i: u64, open: u8) -> SmallTree {
+    let mut tree = tree_by(3, i);
+    let mut v = 0;
+    while v < 6 {
+        tree = opened(tree, v, has(open, v));
         v += 1;
     }
     tree

@@ -9,7 +9,7 @@ use libc::STDOUT_FILENO;
 use small_trees::SmallTree;
 
 fn print_file(tree: SmallTree) {
-    let mut space = [0u8; 81];
+    let mut space = [0u8; 87];
     let n = small_trees::write_file(tree, &mut space);
     trial_text::print_bytes(&space[0..n]);
 }
@@ -137,7 +137,7 @@ fn tree_of(line: &[u8]) -> SmallTree {
     if check::same(trial_text::word(line, 1), b"nth") {
         return small_trees::nth_tree(trial_text::number(source));
     }
-    let mut space = [0u8; 81];
+    let mut space = [0u8; 87];
     let n = trial_text::put_file(source, &mut space);
     small_trees::read_file(&space[0..n])
 }

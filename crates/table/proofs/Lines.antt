@@ -26,12 +26,12 @@ use Rattle.best_rows.proofs.Table.{best-at-within-cap, best-at-over, best-at-no
 use Rattle.node_words.specs.Ancestors.{ancestorAt}
 use Rattle.lines.specs.Line.{LineParts, RowBounds, lineBest, emptyBest, LinesHoldBest}
 use Rattle.lines.proofs.HeldBest.{held-parts, held-bounds, held-line, empty-is-best}
-use Rattle.table.specs.Table.{lineFor, Served}
+use Rattle.table.specs.Table.{lineFor, asCache, Served}
 use Rattle.table.proofs.Prices.{price-within-cap}
 
--- what the code works out at v is what v pays, since v may be a cache and none
+-- what the code works out at v is what v pays: as none always its price, as a cache where it may be one
 module _ (t : Tree) (d : Demand) (v u : ℕ) {x : ℕ} where
-  pub pays-itself : x ≡ price t d v v → x ≡ payAt t d (mayBe t) v u true
+  pub pays-itself : x ≡ asCache t d v → x ≡ payAt t d (mayBe t) v u true
   unfolding mayBe
   pays-itself e = e
 

@@ -1,6 +1,6 @@
 -- Where the lines of the plan's table stand in the scratch, behind the words of the nodes, and what they hold.
 use mathlib.Core.Path.{_≡_}
-use mathlib.Core.Bool.{Bool}
+use mathlib.Core.Bool.{Bool, cond}
 use mathlib.Core.List.{List, map}
 use mathlib.Core.Logic.{_⊎_}
 use Prim.Native.Nat.{ℕ, _+_, _*_, _≤_, _<_}
@@ -12,6 +12,8 @@ use Rattle.model.specs.Tree.{depth, distance}
 use Rattle.model.specs.Rules.{passed, fileVerdict, scratchWords}
 use Rattle.fields.specs.declared.Tree as code
 use Rattle.tree_file.specs.Checks.{sizesOf}
+use Rattle.model.specs.Bill.{price}
+use Rattle.best_rows.specs.Best.{cap}
 use Rattle.best_rows.specs.BestAt.{bestAt}
 use Rattle.node_words.specs.Words.{nodeWords, NodeRoom, NodeWords}
 use Rattle.node_words.specs.Ancestors.{ancestorAt}
@@ -99,6 +101,10 @@ pub record Served (t : Tree) (v a u : ℕ) : Type 0 where
   pub node : v < t .count
   pub above : a < depth t v
   pub ancestor : u ≡ ancestorAt t v a
+
+-- what v pays as a cache: its price at itself, and the cap where it is closed
+abbrev pub asCache : Tree → Demand → ℕ → ℕ
+asCache t d v = cond (t .isOpen v) (price t d v v) cap
 
 -- node v and a node u that can serve it, v itself or one on its way up
 pub record Client (file s : List ℕ) (v u : ℕ) : Type 0 where

@@ -10,7 +10,7 @@ ghost use Rattle.model.specs.Situations.{firstSituation, costIn};
 ghost use Rattle.best_rows.specs.Guarded.{mayBe};
 ghost use Rattle.node_words.specs.RowNodes.{RowNodes};
 ghost use Rattle.lines.specs.Line.{mostWidth};
-ghost use Rattle.table.specs.Table.{width, lineNumber, lineAt, tableEnd, InTable, lineIn, lineFor, TableRoom, NodeWordsStored, LinesFilled, TableFrom, Served, Client, EmptyTo};
+ghost use Rattle.table.specs.Table.{width, lineNumber, lineAt, tableEnd, InTable, lineIn, lineFor, TableRoom, NodeWordsStored, LinesFilled, TableFrom, asCache, Served, Client, EmptyTo};
 ghost use Rattle.table.specs.Situations.{situationOf};
 use units::Distance;
 use units::Flow;
@@ -105,6 +105,19 @@ pub fn pays(file: &[u8], size: usize, part: Flow, s: &[u64], v: usize, u: usize)
     cost_in(situation, all, part, far, near)
 }
 
+// What node v pays as a cache, which is the cap where it is closed.
+pub fn pays_itself(file: &[u8], size: usize, part: Flow, s: &[u64], v: usize) -> Total
+    requires { ⌜ Client (now file) (now s) v v ⌝ }
+    requires { ⌜ (size ≡ recordLength (now file)) × (part .0 ≡ cachable (demandOf (now file)) v) ⌝ }
+    ensures { λ r. ⌜ r .0 ≡ asCache (treeOf (now (file .entry))) (demandOf (now (file .entry))) v ⌝ }
+{
+    let price = pays(file, size, part, s, v, v);
+    if fields::open_in(file, size, v) {
+        return price;
+    }
+    Total::CAP
+}
+
 // ---- one line
 
 // Stores the line of node v with its ancestor u at depth a as the serving node, from the lines of v's children (served by v, and
@@ -125,7 +138,7 @@ fn fill_one(
     requires { ⌜ TableFrom (now file) (mayBe (treeOf (now file))) tree (now s) (lineNumber tree v a + 1) ⌝ }
     requires { ⌜ RowNodes (treeOf (now file)) (now counts) ⌝ }
     requires { ⌜ Served (treeOf (now file)) v a u ⌝ }
-    requires { ⌜ (member .0 ≡ price (treeOf (now file)) (demandOf (now file)) v v) × (other .0 ≡ price (treeOf (now file)) (demandOf (now file)) v u) ⌝ }
+    requires { ⌜ (member .0 ≡ asCache (treeOf (now file)) (demandOf (now file)) v) × (other .0 ≡ price (treeOf (now file)) (demandOf (now file)) v u) ⌝ }
     ensures { λ _. ⌜ now (s .exit) ≡ sets (now (s .entry)) (lineAt tree v a) (lineFor (treeOf (now (file .entry))) (demandOf (now (file .entry))) (mayBe (treeOf (now (file .entry)))) (width tree) v a) ⌝ }
 {
     let old = &s[..];
@@ -170,7 +183,7 @@ fn fill_node(file: &[u8], tree: fields::Tree, s: &mut [u64], counts: &[usize], v
 {
     let size = fields::record_length(file);
     let part = fields::cachable_in(file, size, v);
-    let member = pays(file, size, part, s, v, v);
+    let member = pays_itself(file, size, part, s, v);
     let mut a = node_words::depth_word(s, v);
     let mut u = v;
     while 0 < a {

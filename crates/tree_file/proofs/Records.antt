@@ -1,6 +1,6 @@
--- Rules 7 to 11 and 17, record by record.
+-- Rules 7 to 11, 17 and 24, record by record.
 use mathlib.Core.Path.{_≡_, refl, sym, ap, ap₂, _∙_}
-use mathlib.Core.Bool.{Bool, true, false}
+use mathlib.Core.Bool.{Bool, true, false, cond}
 use mathlib.Core.List.{List}
 use Prim.Native.Nat.{ℕ, zero, suc, _+_, _-_, _≤_, _<_}
 use native.Mathlib.Decide.{decLt}
@@ -8,12 +8,14 @@ use native.Mathlib.Numerals.{add-one}
 use native.Mathlib.Omega.{arith}
 use lib.Dec.{leb, eqb}
 use Rattle.laws.specs.Lists.{has}
-use Rattle.model.specs.File.{Tree, treeOf, demandOf, hasRatios, lengthField, flowField, hitField, cachableField, fieldOf}
+use Rattle.model.specs.File.{Tree, treeOf, demandOf, hasRatios, hasOpenBytes, lengthField, flowField, hitField, cachableField, openField, fieldOf}
 use Rattle.model.specs.Tree.{route}
-use Rattle.model.specs.Rules.{passed, broken, ask, _then_, askShare, parentHolds, lengthHolds, recordVerdict, recordsVerdict}
+use Rattle.model.specs.Rules.{Verdict, passed, broken, ask, _then_, askShare, askOpen, parentHolds, lengthHolds, recordVerdict, recordsVerdict}
 use Rattle.model.specs.Preorder.{PreorderTo}
+use Rattle.laws.proofs.Bools.{by-test}
+use Rattle.model.proofs.Verdicts.{then-none}
 use Rattle.model.proofs.Amounts.{share-ratio, share-bytes}
-use Rattle.model.proofs.Accepted.{record-holds, record-before}
+use Rattle.model.proofs.Accepted.{ratio-all-open, record-holds, record-before}
 use Rattle.tree_file.specs.Checks.{NextRecord, Climbable, RecordsThere}
 use Rattle.tree_file.proofs.Climbs.{earlier-in-file}
 
@@ -38,16 +40,30 @@ module _ (t : Tree) where
   length-of-other zero b z h = absurd (z refl)
   length-of-other (suc i) b z h = h
 
--- ---- rules 11 and 17, by the version
+-- ---- rules 11, 17 and 24, by the version
 
 module _ (file : List ℕ) (i : ℕ) where
-  pub ratio-asked : hasRatios file ≡ true
-      → askShare i (demandOf file .flow i) (demandOf file .share i) ≡ ask 11 i (leb (fieldOf file hitField i) (hitField .most))
-  ratio-asked e = rw (share-ratio file i e)
+  -- what is asked of a record past rule 10
+  abbrev pub lastAsked : Verdict
+  lastAsked = askShare i (demandOf file .flow i) (demandOf file .share i) then askOpen file i
 
-  pub bytes-asked : hasRatios file ≡ false
-      → askShare i (demandOf file .flow i) (demandOf file .share i) ≡ ask 17 i (leb (fieldOf file cachableField i) (fieldOf file flowField i))
-  bytes-asked e = rw (share-bytes file i e)
+  pub ratio-asked : hasRatios file ≡ true → lastAsked ≡ ask 11 i (leb (fieldOf file hitField i) (hitField .most))
+  ratio-asked e = rw (share-ratio file i e, ratio-all-open file e) (then-none _)
+
+  -- what rule 24 asks
+  abbrev pub openHolds : Bool
+  openHolds = cond (hasOpenBytes file) (leb (fieldOf file openField i) (openField .most)) true
+
+  open-asked : askOpen file i ≡ ask 24 i openHolds
+  open-asked =
+      let holds = leb (fieldOf file openField i) (openField .most) in
+      by-test (λ b. cond b (ask 24 i holds) passed ≡ ask 24 i (cond b holds true)) (hasOpenBytes file) (λ _. refl) (λ _. refl)
+
+  pub bytes-broken : hasRatios file ≡ false → leb (fieldOf file cachableField i) (fieldOf file flowField i) ≡ false → lastAsked ≡ broken 17 i
+  bytes-broken e h = rw (share-bytes file i e, h)
+
+  pub bytes-held : hasRatios file ≡ false → leb (fieldOf file cachableField i) (fieldOf file flowField i) ≡ true → lastAsked ≡ ask 24 i openHolds
+  bytes-held e h = rw (share-bytes file i e, h) open-asked
 
 -- ---- one record after the other
 

@@ -1,13 +1,13 @@
-// The check of a tree file by the rules about the file itself, 1 to 11 and 17; the record of a node; the check for a C host.
+// The check of a tree file by the rules about the file itself, 1 to 11, 17 and 24; the record of a node; the check for a C host.
 ghost use mathlib.Core.Path.{_≡_};
-ghost use mathlib.Core.Bool.{false};
+ghost use mathlib.Core.Bool.{true, false, cond};
 ghost use Prim.Native.Nat.{_≤_, max};
 ghost use lib.Dec.{leb};
 ghost use lib.ListN.{length};
 ghost use denote.Builtin.{u8};
 ghost use Rattle.laws.specs.Lists.{has};
 ghost use Rattle.laws.specs.Slices.{PartOf};
-ghost use Rattle.model.specs.File.{headerLength, countOf, hasRatios, recordLength, recordAt, flowField, cachableField, fieldOf, treeOf};
+ghost use Rattle.model.specs.File.{headerLength, countOf, hasRatios, hasOpenBytes, recordLength, recordAt, flowField, cachableField, openField, fieldOf, treeOf};
 ghost use Rattle.model.specs.Tree.{route, depth, height};
 ghost use Rattle.model.specs.Rules.{passed, marked, parentHolds, lengthHolds, recordVerdict, recordsVerdict, fileVerdict};
 ghost use Rattle.model.specs.Calls.{answer, checkNumber, recordBytes};
@@ -57,7 +57,7 @@ fn depth_of(file: &[u8], depths: &[usize], v: usize) -> usize
     depths[parent] + 1
 }
 
-// ---- rules 7 to 11 and 17, record by record
+// ---- rules 7 to 11, 17 and 24, record by record
 
 // Rule 7.
 fn parent_holds(file: &[u8], i: usize) -> bool
@@ -92,6 +92,17 @@ fn cachable_holds(file: &[u8], i: usize) -> bool
     fields::field_of(file, fields::Tree::CACHABLE_FIELD, i) <= flow
 }
 
+// Rule 24: only version 3 has the byte, and the others pass.
+fn open_holds(file: &[u8], i: usize) -> bool
+    requires { ⌜ InFile (now file) i ⌝ }
+    ensures { λ r. ⌜ r ≡ cond (hasOpenBytes (now (file .entry))) (leb (fieldOf (now (file .entry)) openField i) (openField .most)) true ⌝ }
+{
+    if fields::has_open_bytes(file) {
+        return fields::within(file, fields::Tree::OPEN_FIELD, i);
+    }
+    true
+}
+
 // The rules of record i, where they hold of the records before it and their depths are kept.
 fn record_ruling(file: &[u8], depths: &[usize], i: usize) -> Ruling
     requires { ⌜ NextRecord (now file) i ⌝ }
@@ -119,6 +130,9 @@ fn record_ruling(file: &[u8], depths: &[usize], i: usize) -> Ruling
     }
     if !cachable_holds(file, i) {
         return Ruling::Broken(17, record);
+    }
+    if !open_holds(file, i) {
+        return Ruling::Broken(24, record);
     }
     Ruling::Passed
 }
@@ -164,7 +178,7 @@ fn is_marked(file: &[u8]) -> bool
     true
 }
 
-// The rules about the file: 1 to 10, then 11 in version 1 and 17 in version 2.
+// The rules about the file: 1 to 10, then 11 in version 1, 17 in version 2, and 17 and 24 in version 3.
 pub fn file_ruling(file: &[u8]) -> Ruling
     ensures { λ r. ⌜ verdictOf r ≡ fileVerdict (now (file .entry)) ⌝ }
 {
@@ -178,7 +192,7 @@ pub fn file_ruling(file: &[u8]) -> Ruling
     if version < fields::Tree::FIRST_VERSION {
         return Ruling::Broken(3, 0);
     }
-    if fields::Tree::NEWEST_VERSION < version {
+    if fields::Tree::THIRD_VERSION < version {
         return Ruling::Broken(3, 0);
     }
     let n = fields::count_of(file);

@@ -220,17 +220,17 @@ pub fn numbers_of(line: &[u8], k: usize, out: &mut [u16]) -> usize
 }
 
 // Room for the text of all cases.
-pub fn text_room() -> [u8; 163840]
-    ensures { λ r. ⌜ 163840 ≡ length r ⌝ }
+pub fn text_room() -> [u8; 262144]
+    ensures { λ r. ⌜ 262144 ≡ length r ⌝ }
 {
-    [0; 163840]
+    [0; 262144]
 }
 
-// Room for the file of a case: the longest that is accepted has 12,297 bytes.
-pub fn file_room() -> [u8; 12400]
-    ensures { λ r. ⌜ 12400 ≡ length r ⌝ }
+// Room for the file of a case: the longest that is accepted has 13,321 bytes.
+pub fn file_room() -> [u8; 13440]
+    ensures { λ r. ⌜ 13440 ≡ length r ⌝ }
 {
-    [0; 12400]
+    [0; 13440]
 }
 
 // A scratch of which each word is this value.

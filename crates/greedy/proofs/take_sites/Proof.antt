@@ -54,7 +54,7 @@ loop-holds c =
     (omega arith, standing-first (st .pre .1 .0) (st .pre .1 .1) (c .empty-total .ensures), front-only-none _ _, λ o e. written-first (c .empty-total .ensures) e)
 
 search-requires : tie.Need-search-requires Inv-loop μ-loop
-search-requires c κs = sites-weighed (c .before .before .loop .inv .1 .current)
+search-requires c κs = let now = c .before .before .loop .inv .1 .current in (now .stored .room, sites-weighed now)
 
 rest-requires : tie.Need-rest-requires Inv-loop μ-loop
 rest-requires c κs =

@@ -19,7 +19,7 @@ use Rattle.optimum.proofs.split_of.Tie as tie
 abbrev start : tie.After-line3 → tie.Start
 start c = c .before .before .before .before .before .before .before .before
 
-abbrev lines-read : tie.After-pays2 → tie.After-line3
+abbrev lines-read : tie.After-pays → tie.After-line3
 lines-read c = c .before .before .before
 
 -- x with its serving node above it
@@ -42,15 +42,15 @@ held c =
     (cached .line .ensures) (uncached .line2 .ensures) (c .line3 .ensures)
 
 -- what x pays as a cache, and as none
-pays-own : (c : tie.After-pays2) → let a = start (lines-read c) .args in
+pays-own : (c : tie.After-pays) → let a = start (lines-read c) .args in
     let t = treeOf (a .file .now) in
-    c .before .pays .result .0 ≡ payAt t (demandOf (a .file .now)) (mayBe t) (a .x) (a .serving) true
-pays-own c = pays-itself _ _ _ (start (lines-read c) .args .serving) (c .before .pays .ensures)
+    c .before .pays-itself .result .0 ≡ payAt t (demandOf (a .file .now)) (mayBe t) (a .x) (a .serving) true
+pays-own c = pays-itself _ _ _ (start (lines-read c) .args .serving) (c .before .pays-itself .ensures)
 
-pays-other : (c : tie.After-pays2) → let a = start (lines-read c) .args in
+pays-other : (c : tie.After-pays) → let a = start (lines-read c) .args in
     let t = treeOf (a .file .now) in
-    c .pays2 .result .0 ≡ payAt t (demandOf (a .file .now)) (mayBe t) (a .x) (a .serving) false
-pays-other c = pays-above _ _ _ _ (c .pays2 .ensures)
+    c .pays .result .0 ≡ payAt t (demandOf (a .file .now)) (mayBe t) (a .x) (a .serving) false
+pays-other c = pays-above _ _ _ _ (c .pays .ensures)
 
 child-of-requires : tie.Need-child-of-requires
 child-of-requires c κs = let st = c .before .before in served-room (st .pre .0 .table) (served st)
@@ -84,13 +84,13 @@ cachable-in-requires c κs =
     let client = served-itself (st .pre .0 .table) (served st) in
     (st .pre .1 .0, room-record (client .nodes) (client .node))
 
-pays-requires : tie.Need-pays-requires
-pays-requires c κs =
+pays-itself-requires : tie.Need-pays-itself-requires
+pays-itself-requires c κs =
     let st = start (c .before) in
     (served-itself (st .pre .0 .table) (served st), (st .pre .1 .0, c .cachable-in .ensures))
 
-pays-requires-2 : tie.Need-pays-requires-2
-pays-requires-2 c κs =
+pays-requires : tie.Need-pays-requires
+pays-requires c κs =
     let st = start (c .before .before) in
     (served-above-it (st .pre .0 .table) (served st), (st .pre .1 .0, c .before .cachable-in .ensures))
 
@@ -140,8 +140,8 @@ split-of-spec =
     sibling-of-requires
     line-requires-3
     cachable-in-requires
+    pays-itself-requires
     pays-requires
-    pays-requires-2
     most-below-requires
     later-requires
     sub-takes

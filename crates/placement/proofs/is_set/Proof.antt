@@ -1,63 +1,30 @@
--- `is_set`: rule 12, for a tree of n nodes.
-use mathlib.Core.Path.{_≡_, refl, sym}
-use Prim.Native.Nat.{_-_, _≤_}
-use native.Mathlib.Omega.{arith}
-use lib.ListN.{length, drop}
+-- `is_set`: rule 12.
+use mathlib.Core.Path.{_≡_, sym, _∙_}
+use mathlib.Core.Bool.{true}
 use borrow.Author.Needs.{needs}
+use Rattle.laws.proofs.Bools.{held, failed}
 use Rattle.model.specs.Rules.{ascends}
-use Rattle.placement.proofs.Members.{set-goes-on, set-breaks, set-ends}
+use Rattle.model.proofs.Ascending.{not-ascending, set-by-open}
 use Rattle.placement.proofs.is_set.Statement.{statement}
 use Rattle.placement.proofs.is_set.Tie as tie
 
-abbrev Inv-loop : tie.InvT-loop
-Inv-loop set n last₀ i₀ last i = (i ≤ length set) × (ascends 0 n set ≡ ascends last n (drop i set))
+abbrev start : tie.After-ascending → tie.Start
+start c = c .before .before .before
 
-abbrev μ-loop : tie.MeasureT-loop
-μ-loop set n last₀ i₀ last i = length set - i
+ascends-here : (c : tie.Else1) → let a = start (c .before) .args in ascends 0 (a .n) (a .set .now) ≡ true
+ascends-here c = held (c .before .ascending .ensures) (c .if1 .left)
 
-loop-holds : tie.Need-loop-holds Inv-loop μ-loop
-loop-holds c = (search needs, refl)
+ascending-requires : tie.Need-ascending-requires
+ascending-requires c κs = search needs
 
-mul-v : tie.Need-mul-v Inv-loop μ-loop
-mul-v c = search needs
+returns : tie.Need-returns
+returns c = sym (not-ascending _ _ (start (c .before) .pre .nodes) (failed (c .before .ascending .ensures) (c .if1 .taken)))
 
-shared-slice-read-v : tie.Need-shared-slice-read-v Inv-loop μ-loop
-shared-slice-read-v c = search needs
+all-open-requires : tie.Need-all-open-requires
+all-open-requires c κs = (start (c .before) .pre, ascends-here c)
 
-cast-v : tie.Need-cast-v Inv-loop μ-loop
-cast-v c = omega (arith, c .shared-slice-known .given (c .before .before .loop .i))
-
-returns : tie.Need-returns Inv-loop μ-loop
-returns c = sym (set-breaks _ _ _ _ (c .before .before .before .loop .inv .1) (c .before .before .loop-test .taken) (λ a b. omega (arith, c .if1 .taken)))
-
-returns-2 : tie.Need-returns-2 Inv-loop μ-loop
-returns-2 c = sym (set-breaks _ _ _ _ (c .before .before .before .before .loop .inv .1) (c .before .before .before .loop-test .taken) (λ a b. omega (arith, c .if2 .taken)))
-
-add-i : tie.Need-add-i Inv-loop μ-loop
-add-i c = search needs
-
-loop-less : tie.Need-loop-less Inv-loop μ-loop
-loop-less c = search needs
-
-loop-again : tie.Need-loop-again Inv-loop μ-loop
-loop-again c = (search needs, set-goes-on _ _ _ _ (c .before .before .before .before .loop .inv .1) (c .before .before .before .loop-test .taken) (c .before .if1 .left) (c .if2 .left))
-
-returns-3 : tie.Need-returns-3 Inv-loop μ-loop
-returns-3 c = sym (set-ends _ (c .before .before .args .set .now) _ (c .before .loop .i) (c .before .loop .inv .1) (omega arith))
+returns-2 : tie.Need-returns-2
+returns-2 c = c .all-open .ensures ∙ sym (set-by-open _ _ (start (c .before .before) .pre .nodes) (ascends-here (c .before)))
 
 pub is-set-spec : {M : Type 1} → statement M
-is-set-spec =
-    tie.close
-    (tie.spec
-    Inv-loop
-    μ-loop
-    loop-holds
-    mul-v
-    shared-slice-read-v
-    cast-v
-    returns
-    returns-2
-    add-i
-    loop-less
-    loop-again
-    returns-3)
+is-set-spec = tie.close (tie.spec ascending-requires returns all-open-requires returns-2)

@@ -16,11 +16,8 @@ total-requires c κs = search needs
 loop-holds : tie.Need-loop-holds Inv-loop μ-loop
 loop-holds c = search needs
 
-with-requires : tie.Need-with-requires Inv-loop μ-loop
-with-requires c κs = search needs
-
-total-requires-2 : tie.Need-total-requires-2 Inv-loop μ-loop
-total-requires-2 c κs = search needs
+total-with-requires : tie.Need-total-with-requires Inv-loop μ-loop
+total-with-requires c κs = search needs
 
 add-v : tie.Need-add-v Inv-loop μ-loop
 add-v c = search needs
@@ -42,8 +39,7 @@ greedy-node-spec =
     μ-loop
     total-requires
     loop-holds
-    with-requires
-    total-requires-2
+    total-with-requires
     add-v
     loop-less
     loop-again

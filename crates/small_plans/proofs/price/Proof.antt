@@ -1,4 +1,4 @@
--- A price is a flow times at most a thousand distances, in either version.
+-- A price is a flow times at most a thousand distances, in every version.
 use Prim.Native.Nat.{ℕ, _*_, _≤_}
 use native.Mathlib.Nat.{mul-le-mul}
 use native.Mathlib.Omega.{arith}

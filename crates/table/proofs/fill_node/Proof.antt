@@ -29,10 +29,10 @@ abbrev μ-loop : tie.MeasureT-loop
 abbrev loop : tie.After-parent-in Inv-loop μ-loop → tie.At-loop Inv-loop μ-loop
 loop c = c .before .before
 
-abbrev member : tie.At-loop Inv-loop μ-loop → tie.After-pays Inv-loop μ-loop
+abbrev member : tie.At-loop Inv-loop μ-loop → tie.After-pays-itself Inv-loop μ-loop
 member c = c .before .before .before
 
-abbrev part : tie.After-pays Inv-loop μ-loop → tie.After-cachable-in Inv-loop μ-loop
+abbrev part : tie.After-pays-itself Inv-loop μ-loop → tie.After-cachable-in Inv-loop μ-loop
 part c = c .before .before
 
 abbrev start : tie.After-cachable-in Inv-loop μ-loop → tie.Start Inv-loop μ-loop
@@ -56,8 +56,8 @@ cachable-in-requires c κs =
     let st = c .before .before .before .before in
     (c .record-length .ensures, room-record (room-nodes (st .pre .1 .0 .stored .room)) (st .pre .0 .1))
 
-pays-requires : tie.Need-pays-requires Inv-loop μ-loop
-pays-requires c κs =
+pays-itself-requires : tie.Need-pays-itself-requires Inv-loop μ-loop
+pays-itself-requires c κs =
     let st = start (c .before) in
     (stored-client (st .pre .1 .0 .stored) (st .pre .0 .1) (le-refl _) (le-refl _), (c .before .before .record-length .ensures, c .before .cachable-in .ensures))
 
@@ -80,8 +80,8 @@ parent-in-requires c κs =
     let read = part (member (c .before)) in
     (read .before .record-length .ensures, climb-record (l .inv .2 .table .stored .room) (start read .pre .0 .1) (l .inv .0) (l .inv .1))
 
-pays-requires-2 : tie.Need-pays-requires-2 Inv-loop μ-loop
-pays-requires-2 c κs =
+pays-requires : tie.Need-pays-requires Inv-loop μ-loop
+pays-requires c κs =
     let above = c .before in
     let read = part (member (loop above)) in
     (served-above-it (loop above .loop .inv .2 .table) (up above), (read .before .record-length .ensures, read .cachable-in .ensures))
@@ -92,7 +92,7 @@ fill-one-requires c κs =
     let above = other .before .before in
     let own = member (loop above) in
     let st = start (part own) in
-    (next-line _ (above .before .loop-test .taken) (loop above .loop .inv .2 .table), (st .pre .1 .1, (up above, (own .pays .ensures, other .pays2 .ensures))))
+    (next-line _ (above .before .loop-test .taken) (loop above .loop .inv .2 .table), (st .pre .1 .1, (up above, (own .pays-itself .ensures, other .pays .ensures))))
 
 loop-less : tie.Need-loop-less Inv-loop μ-loop
 loop-less c = omega arith
@@ -124,12 +124,12 @@ fill-node-spec =
     μ-loop
     record-length-requires
     cachable-in-requires
-    pays-requires
+    pays-itself-requires
     depth-word-requires
     loop-holds
     sub-a
     parent-in-requires
-    pays-requires-2
+    pays-requires
     fill-one-requires
     loop-less
     loop-again

@@ -8,7 +8,7 @@ use lib.ListN.{length}
 use borrow.Author.Needs.{needs}
 use borrow.Author.Tests.{le-leb, lt-leb, eq-eqb, ne-eqb}
 use Rattle.laws.proofs.Bools.{held, failed, within-held, within-failed, below-held, below-failed}
-use Rattle.model.specs.File.{mostNodes, mostBudget, firstVersion, newestVersion, headerLength, versionOf, countOf, budgetOf, recordAt}
+use Rattle.model.specs.File.{mostNodes, mostBudget, firstVersion, thirdVersion, headerLength, versionOf, countOf, budgetOf, recordAt}
 use Rattle.model.specs.Rules.{marked, recordsVerdict, fileVerdict}
 use Rattle.tree_file.proofs.file_ruling.Statement.{statement}
 use Rattle.tree_file.proofs.file_ruling.Tie as tie
@@ -50,7 +50,7 @@ marks c = held (c .before .is-marked .ensures) (c .if2 .left)
 first : (c : tie.Else3) → leb firstVersion (versionOf (file (test1 (test2 c)))) ≡ true
 first c = below-held (c .before .version-of .ensures) (c .if3 .left)
 
-newest : (c : tie.Else4) → leb (versionOf (file (test1 (test2 (test3 c))))) newestVersion ≡ true
+newest : (c : tie.Else4) → leb (versionOf (file (test1 (test2 (test3 c))))) thirdVersion ≡ true
 newest c = within-held (c .before .before .version-of .ensures) (c .if4 .left)
 
 some : (c : tie.Else5) → leb 1 (countOf (file (test1 (test2 (test3 (test4 c)))))) ≡ true

@@ -6,9 +6,9 @@ use borrow.Author.Needs.{needs}
 use Rattle.laws.proofs.Bools.{held, failed, within-held, within-failed}
 use Rattle.model.specs.File.{mostDepth, hasRatios, flowField, treeOf, demandOf}
 use Rattle.model.specs.Tree.{depth}
-use Rattle.model.specs.Rules.{ask, parentHolds, lengthHolds, askShare, recordVerdict}
+use Rattle.model.specs.Rules.{ask, parentHolds, lengthHolds, recordVerdict}
 use Rattle.fields.proofs.Table.{has-hit}
-use Rattle.tree_file.proofs.Records.{ratio-asked, bytes-asked, climbs-here}
+use Rattle.tree_file.proofs.Records.{lastAsked, ratio-asked, openHolds, bytes-broken, bytes-held, climbs-here}
 use Rattle.tree_file.proofs.record_ruling.Statement.{statement}
 use Rattle.tree_file.proofs.record_ruling.Tie as tie
 
@@ -40,11 +40,8 @@ right-length c = held (c .before .length-holds .ensures) (c .if3 .left)
 small-flow : (c : tie.Else4) → let a = start (test1 (test2 (test3 c))) .args in leb (demandOf (a .file .now) .flow (a .i)) (flowField .most) ≡ true
 small-flow c = held (c .before .within .ensures) (c .if4 .left)
 
--- what is left to ask is rule 11 or 17, by the version
-last : (c : tie.Else4)
-    → let a = start (test1 (test2 (test3 c))) .args in
-    let d = demandOf (a .file .now) in
-    recordVerdict (a .file .now) (a .i) ≡ askShare (a .i) (d .flow (a .i)) (d .share (a .i))
+-- what is left to ask is rule 11, or 17 and 24, by the version
+last : (c : tie.Else4) → let a = start (test1 (test2 (test3 c))) .args in recordVerdict (a .file .now) (a .i) ≡ lastAsked (a .file .now) (a .i)
 unfolding recordVerdict
 last c =
     let c3 = test3 c in
@@ -121,12 +118,23 @@ cachable-holds-requires c κs = (no-ratios c, start (test1 (test2 (test3 (c .bef
 returns-7 : tie.Need-returns-7
 returns-7 c =
     let c5 = c .before .before in
-    sym (last (c5 .before .before) ∙ bytes-asked _ _ (no-ratios c5) ∙ ap (ask 17 _) (failed (c .before .cachable-holds .ensures) (c .if7 .taken)))
+    sym (last (c5 .before .before) ∙ bytes-broken _ _ (no-ratios c5) (failed (c .before .cachable-holds .ensures) (c .if7 .taken)))
+
+-- past rule 17 only 24 is left
+open-left : (c : tie.Else7) → let a = start (test1 (test2 (test3 (c .before .before .before .before)))) .args in
+    recordVerdict (a .file .now) (a .i) ≡ ask 24 (a .i) (openHolds (a .file .now) (a .i))
+open-left c =
+    let c5 = c .before .before in
+    last (c5 .before .before) ∙ bytes-held _ _ (no-ratios c5) (held (c .before .cachable-holds .ensures) (c .if7 .left))
+
+open-holds-requires : tie.Need-open-holds-requires
+open-holds-requires c κs = search needs
 
 returns-8 : tie.Need-returns-8
-returns-8 c =
-    let c5 = c .before .before in
-    sym (last (c5 .before .before) ∙ bytes-asked _ _ (no-ratios c5) ∙ ap (ask 17 _) (held (c .before .cachable-holds .ensures) (c .if7 .left)))
+returns-8 c = sym (open-left (c .before .before) ∙ ap (ask 24 _) (failed (c .before .open-holds .ensures) (c .if8 .taken)))
+
+returns-9 : tie.Need-returns-9
+returns-9 c = sym (open-left (c .before .before) ∙ ap (ask 24 _) (held (c .before .open-holds .ensures) (c .if8 .left)))
 
 pub record-ruling-spec : {M : Type 1} → statement M
 record-ruling-spec =
@@ -147,4 +155,6 @@ record-ruling-spec =
     returns-6
     cachable-holds-requires
     returns-7
-    returns-8)
+    open-holds-requires
+    returns-8
+    returns-9)

@@ -1,4 +1,4 @@
--- `records_ruling`: each of the first n records through rules 7 to 11 before the next.
+-- `records_ruling`: each of the first n records through its rules before the next.
 use mathlib.Core.Path.{refl}
 use Prim.Native.Nat.{_-_}
 use native.Mathlib.Omega.{arith}
