@@ -1,13 +1,13 @@
 -- The words say what each site saves, so the search finds the site that the greedy rule takes.
-use mathlib.Core.Path.{_≡_, refl}
-use mathlib.Core.Bool.{Bool, true, false, true≢false, _||_}
+use mathlib.Core.Path.{_≡_}
+use mathlib.Core.Bool.{true}
 use mathlib.Core.List.{List}
 use Prim.Native.Nat.{ℕ, zero, suc, _*_, _-_, _≤_, _<_}
 use native.Mathlib.Nat.{mul-comm, mul-le-mul}
 use native.Mathlib.Omega.{arith}
 use Rattle.laws.specs.Lists.{has}
 use Rattle.laws.specs.FirstGreatest.{FirstGreatest}
-use Rattle.laws.proofs.Bools.{not-both}
+use Rattle.laws.proofs.Bools.{not-both, either, neither}
 use Rattle.laws.proofs.FirstGreatest.{search-skips}
 use Rattle.model.specs.File.{Tree, Demand, treeOf, demandOf, mostLength, mostDepth}
 use Rattle.model.specs.Tree.{distance}
@@ -23,15 +23,6 @@ use Rattle.greedy.proofs.Gathered.{reach-bound}
 -- a flow over how much nearer it is served
 pub saving-here : {far served nearer flow x y z : ℕ} → far ≡ x → served ≡ y → nearer ≡ far - served → flow ≡ z → flow * nearer ≡ z * (x - y)
 saving-here ex ey en ez = rw (ez, en, ex, ey)
-
--- of two tests, of which one passes
-neither-closed : (a b : Bool) → (a || b) ≡ false → b ≡ false
-neither-closed true b e = absurd (true≢false e)
-neither-closed false b e = e
-
-member-there : (a b : Bool) → b ≡ false → (a || b) ≡ true → a ≡ true
-member-there true b l e = refl
-member-there false b l e = absurd (not-both e l)
 
 -- a member serves itself, so a cache there saves nothing
 saving-of-member : (t : Tree) (d : Demand) → Preorder t → (k : List ℕ) (v : ℕ) → 1 ≤ v → has k v ≡ true → saving t d k v ≡ 0
@@ -66,5 +57,5 @@ module _ {file : List ℕ} {n : ℕ} {s : List ℕ} (now : Current file n s) whe
       let t = treeOf file in
       let k = markedSites n s in
       search-skips (isClosed t) (isPassedOver t k) (savingFrom s) (saving t (demandOf file) k) n _ _ (λ v _ h. saving-held v h)
-      (λ v. neither-closed (has k v) (isClosed t v))
-      (λ v h _ l p. saving-of-member t (demandOf file) (room-sound (now .stored .room) .preorder) k v h (member-there (has k v) (isClosed t v) l p))
+      (λ v h. neither (has k v) (isClosed t v) h .1)
+      (λ v h _ l p. saving-of-member t (demandOf file) (room-sound (now .stored .room) .preorder) k v h (either (has k v ≡ true) (has k v) (isClosed t v) (λ e. e) (λ e. absurd (not-both e l)) p))

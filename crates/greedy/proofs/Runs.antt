@@ -7,7 +7,7 @@ use native.Mathlib.Numerals.{add-one}
 use native.Mathlib.Omega.{arith}
 use lib.ListN.{length, set, getD}
 use lib.Seq.{sets, length-sets}
-use Rattle.laws.specs.Lists.{range, has}
+use Rattle.laws.specs.Lists.{range}
 use Rattle.laws.specs.FirstGreatest.{FirstGreatest}
 use Rattle.laws.specs.Fronts.{FrontOnly}
 use Rattle.laws.proofs.Lists.{entries-padded}
@@ -95,7 +95,7 @@ module _ {file : List ℕ} {n k : ℕ} {s : List ℕ} {sum b site most : ℕ} (s
 
   module _ (saves : 0 < most) where
     pub step-free : Free n site s
-    step-free = let here = outside .held saves in record { site = here .0; below = outside .below; outside = not-passed (has (markedSites n s) site) (t .isOpen site) (here .1) .1 }
+    step-free = let here = outside .held saves in record { site = here .0; below = outside .below; outside = not-passed t (markedSites n s) site (here .1) .1 }
 
     pub step-node : site ≡ getD (greedyNodes t d k) b 0
     step-node = found-node t d k b h (ok .preorder) (ok .part) found saves

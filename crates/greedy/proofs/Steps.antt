@@ -1,24 +1,24 @@
 -- The step of the greedy rule by savings: the open node outside the set that saves most is taken, and where none saves it rests.
-use mathlib.Core.Path.{_≡_, refl}
-use mathlib.Core.Bool.{Bool, true, false, not, _||_, true≢false}
+use mathlib.Core.Path.{_≡_}
+use mathlib.Core.Bool.{true, false}
 use mathlib.Core.List.{List}
 use Prim.Native.Nat.{ℕ, _-_, _≤_, _<_}
 use native.Mathlib.Omega.{arith}
+use borrow.Author.Tests.{not-false}
 use Rattle.laws.specs.Lists.{has}
+use Rattle.laws.proofs.Bools.{neither}
 use Rattle.laws.specs.FirstGreatest.{FirstGreatest}
 use Rattle.model.specs.File.{Tree, Demand}
 use Rattle.model.specs.Bill.{whole, cachable, total}
 use Rattle.model.specs.Greedy.{withNode}
 use Rattle.model.specs.Preorder.{Preorder}
 use Rattle.model.specs.Laws.{Takes, Rests}
-use Rattle.greedy.specs.Savings.{isPassedOver, saving}
+use Rattle.greedy.specs.Savings.{isClosed, isPassedOver, saving}
 use Rattle.greedy.proofs.Saved.{saving-is, total-after}
 
 -- a node that is not passed over is open and no member
-pub not-passed : (a b : Bool) → (a || not b) ≡ false → (b ≡ true) × (a ≡ false)
-not-passed true b e = absurd (true≢false e)
-not-passed false true e = (refl, refl)
-not-passed false false e = absurd (true≢false e)
+pub not-passed : (t : Tree) (k : List ℕ) (v : ℕ) → isPassedOver t k v ≡ false → (t .isOpen v ≡ true) × (has k v ≡ false)
+not-passed t k v h = let parts = neither (has k v) (isClosed t v) h in (not-false (t .isOpen v) (parts .1), parts .0)
 
 module _ (t : Tree) (d : Demand) (pre : Preorder t) (part : (c : ℕ) → cachable d c ≤ whole d c) (k : List ℕ) where
   -- ---- by a search over all sites
@@ -29,7 +29,7 @@ module _ (t : Tree) (d : Demand) (pre : Preorder t) (part : (c : ℕ) → cachab
     search-takes h =
         let after = saving-is t d pre part k in
         let held = s .held h in
-        let candidate = not-passed (has k best) (t .isOpen best) (held .1) in
+        let candidate = not-passed t k best (held .1) in
         record {
           site = (held .0, s .below);
           isOpen = candidate .0;

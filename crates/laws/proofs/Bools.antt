@@ -59,6 +59,10 @@ pub either : (X : Type 0) (a b : Bool) → (a ≡ true → X) → (b ≡ true �
 either X true b f g e = f refl
 either X false b f g e = g e
 
+pub neither : (a b : Bool) → (a || b) ≡ false → (a ≡ false) × (b ≡ false)
+neither true b e = absurd (true≢false e)
+neither false b e = (refl, e)
+
 pub one-passes : (a b : Bool) → (a ≡ false → b ≡ false → ⊥) → (a ≡ true) ⊎ (b ≡ true)
 one-passes true b n = inl refl
 one-passes false true n = inr refl

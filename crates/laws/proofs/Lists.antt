@@ -144,12 +144,6 @@ all-said p (x ∷ xs) =
       λ h. rw (h x (has-head x xs)) (rest .1 (λ v m. h v (has-tail x v xs m))),
     )
 
--- and then those of it are the whole list
-pub those-all : (p : ℕ → Bool) (l : List ℕ) → allOf p l ≡ true → those p l ≡ l
-unfolding allOf those
-those-all p [] h = refl
-those-all p (x ∷ xs) h = let parts = both (p x) (allOf p xs) h in rw (parts .0) (ap (λ r. x ∷ r) (those-all p xs (parts .1)))
-
 -- where x is v, a test of the one is a test of the other
 test-where-same : (p : ℕ → Bool) (x v : ℕ) → (p v && eqb x v) ≡ (p x && eqb x v)
 test-where-same p x v = by-test (λ b. (p v && b) ≡ (p x && b)) (eqb x v) (λ e. rw (eqb-true x v e)) (λ _. simp and-false)

@@ -13,7 +13,8 @@ use lib.Seq.{take-all}
 use borrow.Author.Tests.{eq-eqb, ne-eqb, lt-ltb, le-ltb, ltb-true, le-leb, lt-leb}
 use Rattle.laws.specs.Lists.{range, sum, least, has, those, anyOf, allOf}
 use Rattle.laws.proofs.Bools.{by-test}
-use Rattle.laws.proofs.Lists.{range-bounds, all-said, those-all}
+use Rattle.laws.proofs.Lists.{range-bounds, all-said}
+use Rattle.laws.proofs.Ranges.{those-all}
 use Rattle.model.specs.File.{Field, Tree, Demand, ratio, bytes, number, headerLength, hasRatios, hasOpenBytes, versionOf, countOf, budgetOf, recordLength, parentField, lengthField, flowField, hitField, cachableField, openField, fieldOf, openOf, treeOf, demandOf}
 use Rattle.model.specs.Tree.{server, height, nodes, sites, openSites, route, atOrBelow, distance}
 use Rattle.model.specs.Rules.{Verdict, passed, broken, ask, marked, recordsVerdict, _then_, askProgram, recordVerdict, fileVerdict, accepted, ascends, isSet}
@@ -72,7 +73,7 @@ module _ (s : List ℕ) (none : hasOpenBytes s ≡ false) where
   all-open k = all-said (treeOf s .isOpen) k .1 (λ v _. open-throughout s v none)
 
   sites-all : openSites (treeOf s) ≡ sites (treeOf s)
-  sites-all = those-all (treeOf s .isOpen) (sites (treeOf s)) (all-open (sites (treeOf s)))
+  sites-all = those-all (treeOf s .isOpen) (sites (treeOf s)) (λ v _. open-throughout s v none)
 
   set-only-ascends : (k : List ℕ) → isSet (treeOf s) k ≡ ascends 0 (countOf s) k
   unfolding isSet
@@ -428,7 +429,7 @@ module _ (g h : List ℕ) (same : AddsOpenBytes g h) where
       λ v m.
       let bounds = range-bounds 1 (countOf h - 1) v m in
       rw (open-by-byte h v (open-bytes h (same .third .0)), each v (bounds .0) (omega (arith, same .count))) in
-      those-all (treeOf h .isOpen) (sites (treeOf h)) (all-said (treeOf h .isOpen) (sites (treeOf h)) .1 here)
+      those-all (treeOf h .isOpen) (sites (treeOf h)) here
       ∙ ap (λ (n : ℕ). range 1 (n - 1)) (same .count) ∙ sym (sites-all g (second-all-open g (same .second .0)))
 
 -- ---- all together
