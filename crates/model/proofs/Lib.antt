@@ -27,3 +27,5 @@ pub mod CallLaws
 pub mod Laws
 pub mod Versions
 pub mod Situations
+pub mod Adds
+pub mod AddsCases

@@ -80,7 +80,7 @@ module _ (s : List ℕ) (none : hasOpenBytes s ≡ false) where
   set-only-ascends k = rw (all-open k, and-true)
 
 module _ (s : List ℕ) (e : versionOf s ≡ 1) where
-  ratios : hasRatios s ≡ true
+  pub ratios : hasRatios s ≡ true
   unfolding hasRatios
   ratios = eq-eqb (versionOf s) 1 e
 
@@ -115,7 +115,7 @@ module _ (s : List ℕ) (e : versionOf s ≡ 1) where
   }
 
 module _ (s : List ℕ) (e : versionOf s ≡ 2) where
-  no-ratios : hasRatios s ≡ false
+  pub no-ratios : hasRatios s ≡ false
   unfolding hasRatios
   no-ratios = ne-eqb (versionOf s) 1 (λ n. omega arith)
 
@@ -145,7 +145,7 @@ module _ (s : List ℕ) (e : versionOf s ≡ 3) where
   unfolding hasOpenBytes
   open-bytes = eq-eqb (versionOf s) 3 e
 
-  third-no-ratios : hasRatios s ≡ false
+  pub third-no-ratios : hasRatios s ≡ false
   third-no-ratios = open-no-ratios s open-bytes
 
   thirteen-bytes : recordLength s ≡ 13
@@ -175,7 +175,7 @@ other-version s a b c =
     ]
 
 module _ (s : List ℕ) (fits : accepted s ≡ true) where
-  one-of-three : (versionOf s ≡ 1) ⊎ ((versionOf s ≡ 2) ⊎ (versionOf s ≡ 3))
+  pub one-of-three : (versionOf s ≡ 1) ⊎ ((versionOf s ≡ 2) ⊎ (versionOf s ≡ 3))
   unfolding accepted
   one-of-three =
       let head = accepted-header s (is-passed (fileVerdict s) fits) in
@@ -256,7 +256,7 @@ module _ (s : List ℕ) (fits : accepted s ≡ true) where
         ])
       ]
 
-  exact-length : length s ≡ headerLength + recordLength s * countOf s
+  pub exact-length : length s ≡ headerLength + recordLength s * countOf s
   unfolding accepted
   exact-length = accepted-header s (is-passed (fileVerdict s) fits) .exact
 
@@ -297,7 +297,7 @@ first-alike t t′ d d′ alike k (l ∷ ls) = rw (alike l k) (first-alike t t�
 
 -- ---- a tree with other open sites
 
-abbrev reopened : Tree → (ℕ → Bool) → Tree
+abbrev pub reopened : Tree → (ℕ → Bool) → Tree
 reopened t p = record { count = t .count; parent = t .parent; linkLength = t .linkLength; isOpen = p }
 
 module _ (t : Tree) (p : ℕ → Bool) (d : Demand) where
@@ -329,7 +329,7 @@ module _ (f g : List ℕ) (first-fits : accepted f ≡ true) (second-fits : acce
   second-past : (x : Field) (v : ℕ) → countOf f ≤ v → fieldOf g x v ≡ 0
   second-past x v h = field-past g x v (exact-length g second-fits) (omega (arith, count))
 
-  field-same : (x : Field) → ((v : ℕ) → v < countOf f → fieldOf g x v ≡ fieldOf f x v) → (v : ℕ) → fieldOf g x v ≡ fieldOf f x v
+  pub field-same : (x : Field) → ((v : ℕ) → v < countOf f → fieldOf g x v ≡ fieldOf f x v) → (v : ℕ) → fieldOf g x v ≡ fieldOf f x v
   field-same x h v =
       elim (decLt v (countOf f)) [
         | yes l ↦ h v l
@@ -337,7 +337,7 @@ module _ (f g : List ℕ) (first-fits : accepted f ≡ true) (second-fits : acce
       ]
 
   -- with the same parents and lengths only the open sites may differ
-  tree-same : ((v : ℕ) → v < countOf f → fieldOf g parentField v ≡ fieldOf f parentField v)
+  pub tree-same : ((v : ℕ) → v < countOf f → fieldOf g parentField v ≡ fieldOf f parentField v)
       → ((v : ℕ) → v < countOf f → fieldOf g lengthField v ≡ fieldOf f lengthField v) → treeOf g ≡ reopened (treeOf f) (openOf g)
   tree-same parents lengths = λ i. record {
     count = count i;

@@ -17,6 +17,8 @@ pub mod Children
 pub mod Laws
 pub mod Versions
 pub mod Situations
+pub mod Adds
 pub mod Samples
+pub mod AddsCases
 pub mod VersionCases
 pub mod Worked
