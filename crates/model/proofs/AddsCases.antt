@@ -7,7 +7,7 @@ use Prim.Native.Nat.{ℕ, _<_}
 use native.Mathlib.Omega.{arith}
 use lib.Dec.{eqb}
 use borrow.Author.Tests.{eqb-true}
-use Rattle.laws.specs.Lists.{range, sum, least, greatest, has, anyOf, allOf, those, howMany, firstThat, same}
+use Rattle.laws.specs.Lists.{range, sum, least, has, anyOf, allOf, those, howMany, firstThat, same}
 use Rattle.laws.proofs.Bools.{not-both}
 use Rattle.laws.proofs.Lists.{all-said, in-range}
 use Rattle.model.specs.File.{Field, number, versionOf, countOf, budgetOf, parentField, lengthField, hitField, openField, hasRatios, hasOpenBytes, recordLength, fieldOf, openOf, shareOf}
@@ -19,7 +19,7 @@ use Rattle.model.specs.Plan.{setsOf, firstOf, plan}
 use Rattle.model.specs.Calls.{planTotals, planRows}
 use Rattle.model.specs.Adds.{AlikeButFlows}
 use Rattle.model.specs.AddsCases.{AddsCases}
-use Rattle.model.specs.Samples.{largest, firstWeek, secondWeek, bothWeeks, firstWeekBytes, secondWeekBytes, bothWeeksBytes, firstWeekClosed, secondWeekClosed, bothWeeksClosed}
+use Rattle.model.specs.Samples.{largest, idleWeek, twiceLargest, firstWeek, secondWeek, bothWeeks, firstWeekBytes, secondWeekBytes, bothWeeksBytes, firstWeekClosed, secondWeekClosed, bothWeeksClosed}
 
 -- two functions that a test finds equal below n
 equal-below : (x y : ℕ → ℕ) (n : ℕ) → allOf (λ v. eqb (x v) (y v)) (range 0 n) ≡ true → (v : ℕ) → v < n → x v ≡ y v
@@ -43,7 +43,7 @@ module _ (f h : List ℕ) where
   }
 
 pub adds-cases : AddsCases
-unfolding largest firstWeek secondWeek bothWeeks firstWeekBytes secondWeekBytes bothWeeksBytes firstWeekClosed secondWeekClosed bothWeeksClosed flatMap range sum least greatest has anyOf allOf those howMany firstThat same number hasRatios hasOpenBytes recordLength fieldOf openOf shareOf climb route atOrBelow depth distance parentHolds lengthHolds recordVerdict recordsVerdict marked fileVerdict accepted price cost total upTo clientLoad linkLoad serving smallerFirst members visits tiesBefore ranksBefore setsOf firstOf plan planTotals planRows
+unfolding largest idleWeek twiceLargest firstWeek secondWeek bothWeeks firstWeekBytes secondWeekBytes bothWeeksBytes firstWeekClosed secondWeekClosed bothWeeksClosed flatMap range sum least has anyOf allOf those howMany firstThat same number hasRatios hasOpenBytes recordLength fieldOf openOf shareOf climb route atOrBelow depth distance parentHolds lengthHolds recordVerdict recordsVerdict marked fileVerdict accepted price cost total upTo clientLoad linkLoad serving smallerFirst members visits tiesBefore ranksBefore setsOf firstOf plan planTotals planRows
 adds-cases = record {
   weeksAdd = record {
     allAccepted = (refl, refl, refl);
@@ -95,11 +95,20 @@ adds-cases = record {
   planRowsOfFirstClosed = refl;
   planRowsOfSecondClosed = refl;
   planRowsOfBothClosed = refl;
-  otherBudget = (refl, λ a. absurd (omega (arith, a .firstAlike .budget)));
-  otherServerHit = (refl, λ a. absurd (omega (arith, a .firstAlike .hits refl 0 (omega arith))));
-  otherIdleHit = (refl, λ a. absurd (omega (arith, a .firstAlike .hits refl 1 (omega arith))));
-  otherServerByte = (refl, λ a. absurd (omega (arith, a .firstAlike .openBytes refl 0 (omega arith))));
-  otherServerFlow = (refl, λ a. absurd (omega (arith, a .flows 0 (omega arith))));
-  otherServerCachable = (refl, λ a. absurd (omega (arith, a .cachables (inr refl) 0 (omega arith))));
+  idleWeekAdds = record {
+    allAccepted = (refl, refl, refl);
+    firstAlike = found-alike largest largest refl refl refl refl refl (λ _. refl) (λ e. absurd (omega (arith, e)));
+    secondAlike = found-alike idleWeek largest refl refl refl refl refl (λ _. refl) (λ e. absurd (omega (arith, e)));
+    flows = equal-below _ _ 2 refl;
+    cachables = ⊎-elim (λ e. absurd (omega (arith, e))) (λ e. absurd (omega (arith, e)));
+  };
+  otherBudget = (refl, refl, refl, λ a. absurd (omega (arith, a .firstAlike .budget)));
+  otherFirstBudget = (refl, refl, refl, λ a. absurd (omega (arith, a .firstAlike .budget)));
+  otherSecondBudget = (refl, refl, refl, λ a. absurd (omega (arith, a .secondAlike .budget)));
+  otherServerHit = (refl, refl, refl, λ a. absurd (omega (arith, a .firstAlike .hits refl 0 (omega arith))));
+  otherIdleHit = (refl, refl, refl, λ a. absurd (omega (arith, a .firstAlike .hits refl 1 (omega arith))));
+  otherServerByte = (refl, refl, refl, λ a. absurd (omega (arith, a .firstAlike .openBytes refl 0 (omega arith))));
+  otherServerFlow = (refl, refl, refl, λ a. absurd (omega (arith, a .flows 0 (omega arith))));
+  otherServerCachable = (refl, refl, refl, λ a. absurd (omega (arith, a .cachables (inr refl) 0 (omega arith))));
   sumTooLarge = (refl, λ a. absurd (not-both (a .allAccepted .2) refl));
 }

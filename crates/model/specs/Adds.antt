@@ -19,7 +19,7 @@ pub record AlikeButFlows (f h : List ℕ) : Type 0 where
   pub budget : budgetOf f ≡ budgetOf h
   pub parents : (v : ℕ) → v < countOf h → fieldOf f parentField v ≡ fieldOf h parentField v
   pub lengths : (v : ℕ) → v < countOf h → fieldOf f lengthField v ≡ fieldOf h lengthField v
-  -- what else a record has: in version 1 the hit, in version 3 the last byte
+  -- and what else is no flow and no cachable bytes: in version 1 the hit, in version 3 the last byte
   pub hits : versionOf h ≡ 1 → (v : ℕ) → v < countOf h → fieldOf f hitField v ≡ fieldOf h hitField v
   pub openBytes : versionOf h ≡ 3 → (v : ℕ) → v < countOf h → fieldOf f openField v ≡ fieldOf h openField v
 

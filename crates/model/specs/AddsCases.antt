@@ -10,11 +10,11 @@ use Rattle.model.specs.Bill.{total}
 use Rattle.model.specs.Plan.{planTotal}
 use Rattle.model.specs.Calls.{servingNodes, linkLoads, planTotals, planRows}
 use Rattle.model.specs.Adds.{Adds}
-use Rattle.model.specs.Samples.{tenBytes, twoNodes, largest, firstWeek, secondWeek, bothWeeks, firstWeekBytes, secondWeekBytes, bothWeeksBytes, firstWeekClosed, secondWeekClosed, bothWeeksClosed}
+use Rattle.model.specs.Samples.{largest, idleWeek, twiceLargest, firstWeek, secondWeek, bothWeeks, firstWeekBytes, secondWeekBytes, bothWeeksBytes, firstWeekClosed, secondWeekClosed, bothWeeksClosed}
 
--- h is accepted, and has not the sums of f and g
-abbrev pub NoSum : List ℕ → List ℕ → List ℕ → Type 0
-NoSum f g h = (accepted h ≡ true) × (Adds f g h → ⊥)
+-- three accepted files, but not three alike of which the third has the sums
+abbrev pub NotAdds : List ℕ → List ℕ → List ℕ → Type 0
+NotAdds f g h = (accepted f ≡ true) × (accepted g ≡ true) × (accepted h ≡ true) × (Adds f g h → ⊥)
 
 pub record AddsCases : Type 0 where
   -- version 1: at budget 1 the weeks plan {2} and {3}, and both together {1}, for 568,000, where 180,000 + 120,000 is the sum; at
@@ -56,15 +56,18 @@ pub record AddsCases : Type 0 where
   pub planRowsOfFirstClosed : planRows firstWeekClosed ≡ 0 ∷ 2 ∷ []
   pub planRowsOfSecondClosed : planRows secondWeekClosed ≡ 0 ∷ 3 ∷ []
   pub planRowsOfBothClosed : planRows bothWeeksClosed ≡ 0 ∷ 2 ∷ []
-  -- "alike in all": not with another budget, another hit or last byte at the server, or another hit at a node without flow, though no
-  -- total depends on them
-  pub otherBudget : NoSum firstWeek secondWeek (set bothWeeks 8 0x01)
-  pub otherServerHit : NoSum firstWeek secondWeek (set bothWeeks 18 0x2D)
-  pub otherIdleHit : NoSum firstWeek secondWeek (set bothWeeks 28 0x01)
-  pub otherServerByte : NoSum firstWeekClosed secondWeekClosed (set bothWeeksClosed 21 0x00)
+  -- a client may be there in one week alone, and the sum may be the greatest flow
+  pub idleWeekAdds : Adds largest idleWeek largest
+  -- "alike in all": not with another budget in the third, the first or the second, another hit or last byte at the server, or another
+  -- hit at a node without flow, though no total depends on them
+  pub otherBudget : NotAdds firstWeek secondWeek (set bothWeeks 8 0x01)
+  pub otherFirstBudget : NotAdds (set firstWeek 8 0x01) secondWeek bothWeeks
+  pub otherSecondBudget : NotAdds firstWeek (set secondWeek 8 0x03) bothWeeks
+  pub otherServerHit : NotAdds firstWeek secondWeek (set bothWeeks 18 0x2D)
+  pub otherIdleHit : NotAdds firstWeek secondWeek (set bothWeeks 28 0x01)
+  pub otherServerByte : NotAdds firstWeekClosed secondWeekClosed (set bothWeeksClosed 21 0x00)
   -- "the sums of the other two's": at the server too, flow 257 for 250 + 6, and cachable bytes 120,001 for 70,000 + 50,000
-  pub otherServerFlow : NoSum firstWeek secondWeek (set bothWeeks 16 0x01)
-  pub otherServerCachable : NoSum firstWeekClosed secondWeekClosed (set bothWeeksClosed 20 0xC1)
-  -- "three accepted files": twice 100,000,000 is a flow that no file has
-  pub sumTooLarge : (fileVerdict (twoNodes (tenBytes 0x00 0x00 0x03 0xE8 0x0B 0xEB 0xC2 0x00 0x03 0xE8)) ≡ broken 10 1)
-      × (Adds largest largest (twoNodes (tenBytes 0x00 0x00 0x03 0xE8 0x0B 0xEB 0xC2 0x00 0x03 0xE8)) → ⊥)
+  pub otherServerFlow : NotAdds firstWeek secondWeek (set bothWeeks 16 0x01)
+  pub otherServerCachable : NotAdds firstWeekClosed secondWeekClosed (set bothWeeksClosed 20 0xC1)
+  -- "three accepted files": rule 10 refuses twice the greatest flow
+  pub sumTooLarge : (fileVerdict twiceLargest ≡ broken 10 1) × (Adds largest largest twiceLargest → ⊥)
