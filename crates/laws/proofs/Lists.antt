@@ -144,6 +144,10 @@ all-said p (x ∷ xs) =
       λ h. rw (h x (has-head x xs)) (rest .1 (λ v m. h v (has-tail x v xs m))),
     )
 
+-- two rules that a test finds equal below n
+pub equal-below : (f g : ℕ → ℕ) (n : ℕ) → allOf (λ v. eqb (f v) (g v)) (range 0 n) ≡ true → (v : ℕ) → v < n → f v ≡ g v
+equal-below f g n e v l = eqb-true (f v) (g v) (all-said (λ u. eqb (f u) (g u)) (range 0 n) .0 e v (in-range 0 n v (omega arith) (omega arith)))
+
 -- where x is v, a test of the one is a test of the other
 test-where-same : (p : ℕ → Bool) (x v : ℕ) → (p v && eqb x v) ≡ (p x && eqb x v)
 test-where-same p x v = by-test (λ b. (p v && b) ≡ (p x && b)) (eqb x v) (λ e. rw (eqb-true x v e)) (λ _. simp and-false)

@@ -59,18 +59,13 @@ module _ (t : Tree) (d d′ s : Demand) (ok : Sound t d) (ok′ : Sound t d′)
       let below = those (atOrBelow t (suc v)) (nodes t) in
       sum-same (clientLoad t s k (suc v)) _ below (λ c _. client-load-adds k (suc v) c) ∙ sum-add (clientLoad t d k (suc v)) (clientLoad t d′ k (suc v)) below
 
--- ---- one file
-
-sound : (s : List ℕ) → accepted s ≡ true → Sound (treeOf s) (demandOf s)
-unfolding accepted
-sound s fits = accepted-sound s (is-passed (fileVerdict s) fits)
+-- ---- files alike in all but flows
 
 -- versions 2 and 3 have cachable bytes
-later-no-ratios : (s : List ℕ) → (versionOf s ≡ 2) ⊎ (versionOf s ≡ 3) → hasRatios s ≡ false
+pub later-no-ratios : (s : List ℕ) → (versionOf s ≡ 2) ⊎ (versionOf s ≡ 3) → hasRatios s ≡ false
 later-no-ratios s = ⊎-elim (no-ratios s) (third-no-ratios s)
 
--- ---- two accepted files alike in all but flows have the same tree
-
+-- two accepted ones have the same tree
 module _ (f h : List ℕ) (first-fits : accepted f ≡ true) (fits : accepted h ≡ true) (alike : AlikeButFlows f h) where
   open-same : (v : ℕ) → openOf f v ≡ openOf h v
   unfolding openOf hasOpenBytes
@@ -87,6 +82,16 @@ module _ (f h : List ℕ) (first-fits : accepted f ≡ true) (fits : accepted h 
 
   hit-alike : versionOf h ≡ 1 → (v : ℕ) → fieldOf f hitField v ≡ fieldOf h hitField v
   hit-alike e = field-same h f fits first-fits (alike .count) hitField (alike .hits e)
+
+  sound-alike : Sound (treeOf h) (demandOf f)
+  unfolding accepted
+  sound-alike = rw tree-alike at (accepted-sound f (is-passed (fileVerdict f) first-fits))
+
+  -- the plan of h costs f no less than its own
+  own-plan-least : (b : ℕ) → planTotal (treeOf f) (demandOf f) b ≤ total (treeOf f) (demandOf f) (plan (treeOf h) (demandOf h) b)
+  own-plan-least b =
+      let held = plan-ranks-first (treeOf h) (demandOf h) b in
+      plan-least (treeOf f) (demandOf f) b (plan (treeOf h) (demandOf h) b) (rw tree-alike (held .isASet)) (held .within)
 
 -- ---- three files of which the third has the sums
 
@@ -143,10 +148,10 @@ module _ (f g h : List ℕ) (adds : Adds f g h) where
   second-tree = tree-alike g h (adds .allAccepted .1) (adds .allAccepted .2) (adds .secondAlike)
 
   first-sound : Sound (treeOf h) (demandOf f)
-  first-sound = rw first-tree at (sound f (adds .allAccepted .0))
+  first-sound = sound-alike f h (adds .allAccepted .0) (adds .allAccepted .2) (adds .firstAlike)
 
   second-sound : Sound (treeOf h) (demandOf g)
-  second-sound = rw second-tree at (sound g (adds .allAccepted .1))
+  second-sound = sound-alike g h (adds .allAccepted .1) (adds .allAccepted .2) (adds .secondAlike)
 
   totals-add : (k : List ℕ) → total (treeOf h) (demandOf h) k ≡ total (treeOf f) (demandOf f) k + total (treeOf g) (demandOf g) k
   totals-add k =
@@ -159,10 +164,10 @@ module _ (f g h : List ℕ) (adds : Adds f g h) where
   -- the third's plan costs each of the two no less than its own
   at-plan : (b : ℕ) → let p = plan (treeOf h) (demandOf h) b in
       (planTotal (treeOf f) (demandOf f) b ≤ total (treeOf f) (demandOf f) p) × (planTotal (treeOf g) (demandOf g) b ≤ total (treeOf g) (demandOf g) p)
-  at-plan b =
-      let p = plan (treeOf h) (demandOf h) b in
-      let held = plan-ranks-first (treeOf h) (demandOf h) b in
-      (plan-least (treeOf f) (demandOf f) b p (rw first-tree (held .isASet)) (held .within), plan-least (treeOf g) (demandOf g) b p (rw second-tree (held .isASet)) (held .within))
+  at-plan b = (
+    own-plan-least f h (adds .allAccepted .0) (adds .allAccepted .2) (adds .firstAlike) b,
+    own-plan-least g h (adds .allAccepted .1) (adds .allAccepted .2) (adds .secondAlike) b,
+  )
 
 pub adds-lawful : AddsLawful
 adds-lawful = record {
