@@ -1,26 +1,30 @@
--- The nodes at or below a node are the node and those of the row of its children, so a row counts the members of a set there.
+-- The nodes at or below a node are the node and those of the row of its children, so a row counts the members of a set there, and the
+-- row that begins with a node has just the nodes that rule 13 counts.
 use mathlib.Core.Path.{_≡_, refl, sym, ap, _∙_}
 use mathlib.Core.Bool.{Bool, true, false, cond, and-true}
 use mathlib.Core.List.{List, [], _∷_}
 use Prim.Native.Nat.{ℕ, zero, suc, _+_, _-_, _≤_, _<_}
 use native.Mathlib.Nat.{zero-add, suc-add}
 use native.Mathlib.Omega.{arith}
+use lib.Dec.{eqb}
 use lib.ListN.{length}
-use Rattle.laws.specs.Lists.{range, has, those, howMany}
+use borrow.Author.Tests.{eq-eqb}
+use Rattle.laws.specs.Lists.{range, sum, has, those, howMany}
+use Rattle.laws.proofs.Bools.{by-test}
 use Rattle.laws.proofs.Lists.{has-head, has-other, has-those, in-range}
 use Rattle.laws.proofs.Counts.{length-those, how-many-those}
 use Rattle.model.specs.File.{Tree}
-use Rattle.model.specs.Tree.{sites, route, atOrBelow}
+use Rattle.model.specs.Tree.{nodes, sites, route, atOrBelow, nodesOfRow}
 use Rattle.model.specs.Rules.{ascends}
 use Rattle.model.specs.Ties.{members}
 use Rattle.model.specs.Preorder.{Preorder}
 use Rattle.model.proofs.Routes.{route-server, parent-before, route-up, by-route, route-before}
 use Rattle.model.proofs.Ascending.{ascends-range, ascends-those, same-members}
-use Rattle.best_rows.specs.Rows.{Row, empty, node, rowNodes, choiceOf, rowCount}
-use Rattle.best_rows.specs.TreeRows.{rowAfter, serverRow}
+use Rattle.best_rows.specs.Rows.{Row, empty, node, rowNodes, rowSize, choiceOf, rowCount}
+use Rattle.best_rows.specs.TreeRows.{rowAfter, serverRow, nodesAfter, rowAt}
 use Rattle.best_rows.specs.BestAt.{one}
 use Rattle.best_rows.proofs.TreeRows.{row-after-cases}
-use Rattle.best_rows.proofs.Cover.{rowsAlong, rows-cover, server-row-whole}
+use Rattle.best_rows.proofs.Cover.{length-row-nodes, rowsAlong, rows-cover, server-row-whole}
 
 -- what a row counts of a set, with what a list behind it has of the set, is what they have together
 row-counts : (k : List ℕ) (r : Row) (l : List ℕ) → rowCount one r (choiceOf k r) + howMany (has k) l ≡ howMany (has k) (rowNodes r l)
@@ -87,6 +91,40 @@ module _ (t : Tree) (pre : Preorder t) where
       let above = none-along v m (t .parent v) (omega (arith, parent-before t pre i)) in
       rw (← e, none-before v i (suc m) 1 (omega arith), self, ← (rows-cover t pre m v), route-up t pre i)
       (rw (row-below v true m v v _ (omega arith) self, above))
+
+  -- ---- so the row that begins with a node has those at or below it and its later siblings
+
+  nodes-below : (i m : ℕ) → i + suc m ≡ t .count - 1
+      → howMany (atOrBelow t (suc i)) (nodes t) ≡ 1 + rowSize (rowAfter t m (suc i) (suc i))
+  unfolding howMany range atOrBelow
+  nodes-below i m e =
+      let all : t .count ≡ suc (t .count - 1) = omega arith in
+      let few = ap length (sites-below i m e) in
+      ap (λ (n : ℕ). howMany (atOrBelow t (suc i)) (range 0 n)) all
+      ∙ ap (λ b. cond b 1 0 + howMany (atOrBelow t (suc i)) (sites t)) (route-before t pre (suc i) 0 (omega arith))
+      ∙ (omega (arith, few, length-those (atOrBelow t (suc i)) (sites t), length-row-nodes (rowAfter t m (suc i) (suc i)) []))
+
+  -- of p's children among the n nodes after i, and below them
+  nodes-of-children : (n i p : ℕ) → i + n ≡ t .count - 1
+      → sum (λ s. howMany (atOrBelow t s) (nodes t)) (those (λ s. eqb (t .parent s) p) (range (suc i) n)) ≡ rowSize (rowAfter t n i p)
+  unfolding sum those range rowAfter rowSize
+  nodes-of-children zero i p e = refl
+  nodes-of-children (suc n) i p e =
+      let rest = nodes-of-children n (suc i) p (omega arith) in
+      let later = those (λ s. eqb (t .parent s) p) (range (suc (suc i)) n) in
+      by-test (λ b. sum (λ s. howMany (atOrBelow t s) (nodes t)) (cond b (suc i ∷ later) later)
+      ≡ rowSize (cond b (node (suc i) (rowAfter t n (suc i) (suc i)) (rowAfter t n (suc i) p)) (rowAfter t n (suc i) p))) (eqb (t .parent (suc i)) p)
+      (λ _. omega (arith, rest, nodes-below i n e)) (λ _. rest)
+
+  pub nodes-of-row : (v : ℕ) → 0 < v → v < t .count → nodesOfRow t v ≡ rowSize (rowAt t v)
+  unfolding nodesOfRow sum those range rowAt rowSize
+  nodes-of-row zero h l = absurd (omega arith)
+  nodes-of-row (suc i) h l =
+      let v = suc i in
+      let m = nodesAfter t v in
+      let all : t .count - v ≡ suc m = omega arith in
+      rw (all, eq-eqb (t .parent v) (t .parent v) refl)
+      (omega (arith, nodes-below i m (omega arith), nodes-of-children m v (t .parent v) (omega arith)))
 
   -- ---- so the row of a node's children counts the members below it, and the server's row all members
 

@@ -30,7 +30,7 @@ after-row (node v a b) l i (suc n) e =
     let first : suc i + rowSize a + rowSize b ≡ i + (1 + rowSize a + rowSize b) = omega arith in
     rw (← first) (after-row b l (suc i + rowSize a) (length (rowNodes b l)) children)
 
-length-row-nodes : (r : Row) (l : List ℕ) → length (rowNodes r l) ≡ rowSize r + length l
+pub length-row-nodes : (r : Row) (l : List ℕ) → length (rowNodes r l) ≡ rowSize r + length l
 unfolding rowNodes rowSize
 length-row-nodes empty l = omega arith
 length-row-nodes (node v a b) l = omega (arith, length-row-nodes a (rowNodes b l), length-row-nodes b l)

@@ -1,12 +1,12 @@
 -- Laws of how many of a list pass a test, and of the first that does.
 use mathlib.Core.Path.{_≡_, refl}
-use mathlib.Core.Bool.{Bool, true, cond}
+use mathlib.Core.Bool.{Bool, true, false, cond, _||_}
 use mathlib.Core.List.{List, [], _∷_, _++_}
 use mathlib.Core.Logic.{_⊎_, inl, inr}
 use Prim.Native.Nat.{ℕ, _+_, _≤_}
 use native.Mathlib.Omega.{arith}
 use lib.ListN.{length}
-use Rattle.laws.specs.Lists.{has, those, howMany, firstThat, bit}
+use Rattle.laws.specs.Lists.{has, anyOf, those, howMany, firstThat, bit}
 use Rattle.laws.proofs.Bools.{by-test}
 use Rattle.laws.proofs.Lists.{has-head, has-tail}
 
@@ -29,6 +29,27 @@ pub how-many-le : (p : ℕ → Bool) (l : List ℕ) → howMany p l ≤ length l
 unfolding howMany
 how-many-le p [] = omega arith
 how-many-le p (y ∷ l) = omega (arith, bit-le (p y), how-many-le p l)
+
+-- none passes a test that nothing passes
+pub how-many-none : (l : List ℕ) → howMany (λ _. false) l ≡ 0
+unfolding howMany
+how-many-none [] = refl
+how-many-none (x ∷ l) = omega (arith, how-many-none l)
+
+-- of two tests that no number passes both
+pub how-many-either : (p q : ℕ → Bool) (l : List ℕ) → ((x : ℕ) → p x ≡ true → q x ≡ false) → howMany (λ x. p x || q x) l ≡ howMany p l + howMany q l
+unfolding howMany
+how-many-either p q [] h = refl
+how-many-either p q (x ∷ l) h =
+    let one : bit (p x || q x) ≡ bit (p x) + bit (q x) =
+    by-test (λ b. p x ≡ b → bit (b || q x) ≡ bit b + bit (q x)) (p x) (λ _ e. rw (h x e)) (λ _ _. omega arith) refl in
+    omega (arith, one, how-many-either p q l h)
+
+-- none of a list passes a test
+pub any-none : (p : ℕ → Bool) (l : List ℕ) → ((x : ℕ) → has l x ≡ true → p x ≡ false) → anyOf p l ≡ false
+unfolding anyOf
+any-none p [] h = refl
+any-none p (x ∷ l) h = rw (h x (has-head x l)) (any-none p l (λ y m. h y (has-tail x y l m)))
 
 -- of two tests it does not matter which is asked first
 pub how-many-those : (p q : ℕ → Bool) (l : List ℕ) → howMany p (those q l) ≡ howMany q (those p l)

@@ -47,6 +47,13 @@ pub none-of-length : (l : List ℕ) → length l ≡ 0 → l ≡ []
 none-of-length [] e = refl
 none-of-length (x ∷ xs) e = absurd (omega arith)
 
+-- ---- an entry inside a list is the same by any default
+
+pub entry-by-any-default : (l : List ℕ) (n d e : ℕ) → n < length l → getD l n d ≡ getD l n e
+entry-by-any-default [] n d e h = absurd (omega arith)
+entry-by-any-default (x ∷ l) zero d e h = refl
+entry-by-any-default (x ∷ l) (suc n) d e h = entry-by-any-default l n d e (omega arith)
+
 -- ---- ranges
 
 pub length-range : (i n : ℕ) → length (range i n) ≡ n

@@ -115,6 +115,16 @@ stores-first l f i e h =
     set-sets l i (f i) (i + 1) (map f (range (i + 1) (e - (i + 1)))) (omega arith)
     ∙ sym (rw (range-first i e h, next))
 
+-- f 0 stored at p, then f 1, .. from the next index on
+pub stores-after-first : (l : List ℕ) (p : ℕ) (f : ℕ → ℕ) (e : ℕ) {s : List ℕ} {x : ℕ} → 0 < e → x ≡ f 0
+    → s ≡ sets (set l p x) (p + 1) (map f (range 1 (e - 1))) → s ≡ sets l p (map f (range 0 e))
+unfolding range
+stores-after-first l p f zero h hx hs = absurd (omega arith)
+stores-after-first l p f (suc e) h hx hs =
+    let next : p + 1 ≡ suc p = omega arith in
+    let one-less : suc e - 1 ≡ e = omega arith in
+    hs ∙ rw (next, one-less, hx)
+
 -- the entry at v after f was written from index 0 on
 pub entry-stored : (l : List ℕ) (f : ℕ → ℕ) (n v : ℕ) → n ≤ length l → v < n → getD (sets l 0 (map f (range 0 n))) v 0 ≡ f v
 entry-stored l f n v h b =

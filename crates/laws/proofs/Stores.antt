@@ -1,12 +1,13 @@
 -- Parts of a list, runs of stores (`sets` of lib.Seq), and loops that store one entry after another.
 use mathlib.Core.Path.{_≡_, refl, sym, ap, _∙_}
 use mathlib.Core.List.{List, [], _∷_, _++_, append-assoc, map, flatMap}
+use mathlib.Core.Logic.{_⊎_, ⊎-elim}
 use Prim.Native.Nat.{ℕ, zero, suc, _+_, _*_, _≤_, _<_}
 use native.Mathlib.Nat.{add-suc, suc-add, zero-add, add-zero, suc-mul, zero-mul}
 use native.Mathlib.Numerals.{add-one}
 use native.Mathlib.Omega.{arith}
 use lib.ListN.{length, length-append, take, drop, set, getD, length-drop}
-use lib.Seq.{take-suc, getD-drop, getD-set-other, drop-append-add, drop-drop, sets, sets-eq, drop-set-lt, take-set-le, take-at, drop-at, length-take-le}
+use lib.Seq.{take-suc, getD-take, getD-drop, getD-set-other, drop-append-add, drop-drop, sets, sets-eq, drop-set-lt, take-set-le, take-at, drop-at, length-take-le}
 use Rattle.laws.specs.Lists.{range, part}
 use Rattle.laws.proofs.Lists.{length-of-range, range-snoc, map-append}
 
@@ -18,6 +19,9 @@ part-snoc l p w h = rw (take-suc (drop p l) w 0 (simp length-drop (omega arith))
 
 pub length-part : (l : List ℕ) (p w : ℕ) → p + w ≤ length l → length (part l p w) ≡ w
 length-part l p w h = length-take-le w (drop p l) (simp length-drop (omega arith))
+
+pub entry-of-part : (l : List ℕ) (p w j : ℕ) → j < w → getD (part l p w) j 0 ≡ getD l (p + j) 0
+entry-of-part l p w j h = getD-take w (drop p l) j 0 h ∙ getD-drop p l j 0
 
 -- a part is the end of a front of the list
 part-of-front : (w p : ℕ) (l : List ℕ) → take w (drop p l) ≡ drop p (take (p + w) l)
@@ -59,6 +63,10 @@ sets-append l i (a ∷ xs) ys =
 pub sets-front : (l xs : List ℕ) → length xs ≤ length l → sets l 0 xs ≡ xs ++ drop (length xs) l
 sets-front l xs h = sets-eq xs l 0 (omega arith) ∙ rw (zero-add (length xs))
 
+-- and is the front of what comes of it
+pub front-stored : (l xs : List ℕ) (n : ℕ) → length xs ≡ n → n ≤ length l → take n (sets l 0 xs) ≡ xs
+front-stored l xs n e h = rw (sets-front l xs (omega arith)) (take-at xs (drop (length xs) l) n e)
+
 pub drop-sets : (n : ℕ) (l : List ℕ) (i : ℕ) (xs : List ℕ) → i + length xs ≤ n → drop n (sets l i xs) ≡ drop n l
 drop-sets n l i [] h = refl
 drop-sets n l i (a ∷ xs) h = drop-sets n (set l i a) (suc i) xs (omega arith) ∙ drop-set-lt n l i a (omega arith)
@@ -80,6 +88,9 @@ pub part-before : (l : List ℕ) (i : ℕ) (xs : List ℕ) (p w : ℕ) → p + w
 part-before l i xs p w h =
     part-of-front w p (sets l i xs) ∙ ap (drop p) (take-sets (p + w) l i xs h) ∙ sym (part-of-front w p l)
 
+pub part-outside : (l : List ℕ) (i : ℕ) (xs : List ℕ) (p w : ℕ) → (p + w ≤ i) ⊎ (i + length xs ≤ p) → part (sets l i xs) p w ≡ part l p w
+part-outside l i xs p w h = ⊎-elim (part-before l i xs p w) (part-after l i xs p w) h
+
 pub part-same : (l : List ℕ) (i : ℕ) (xs : List ℕ) (w : ℕ) → length xs ≡ w → i + w ≤ length l → part (sets l i xs) i w ≡ xs
 part-same l i xs w e h =
     ap (λ (s : List ℕ). part s i w) (sets-eq xs l i (omega arith) ∙ append-assoc (take i l) xs (drop (i + length xs) l))
@@ -98,9 +109,14 @@ pub loop-begins : (l : List ℕ) (i : ℕ) (f : ℕ → ℕ) → l ≡ sets l i 
 unfolding range
 loop-begins l i f = refl
 
+-- a turn of one that writes f i, f (i + 1), .. from index p on
+pub loop-turns-from : (l : List ℕ) (p : ℕ) (f : ℕ → ℕ) (i n : ℕ) {s : List ℕ} {q x : ℕ} → s ≡ sets l p (map f (range i n)) → q ≡ p + n
+    → x ≡ f (i + n) → set s q x ≡ sets l p (map f (range i (n + 1)))
+loop-turns-from l p f i n hs hq hx =
+    let one : map f (range i (suc n)) ≡ map f (range i n) ++ (f (i + n) ∷ []) =
+    ap (map f) (range-snoc i n) ∙ map-append f (range i n) _ in
+    rw (add-one, one, sets-append l p (map f (range i n)) (f (i + n) ∷ []), length-of-range f i n, hs, hq, hx)
+
 pub loop-turns : (l : List ℕ) (i : ℕ) (f : ℕ → ℕ) (j : ℕ) {s : List ℕ} {p x : ℕ} → s ≡ sets l i (map f (range 0 j)) → p ≡ i + j → x ≡ f j
     → set s p x ≡ sets l i (map f (range 0 (j + 1)))
-loop-turns l i f j hs hp hx =
-    let one : map f (range 0 (suc j)) ≡ map f (range 0 j) ++ (f j ∷ []) =
-    ap (map f) (range-snoc 0 j) ∙ map-append f (range 0 j) _ ∙ ap (λ k. map f (range 0 j) ++ (f k ∷ [])) (zero-add j) in
-    rw (add-one, one, sets-append l i (map f (range 0 j)) (f j ∷ []), length-of-range f 0 j, hs, hp, hx)
+loop-turns l i f j hs hp hx = loop-turns-from l i f 0 j hs hp (hx ∙ ap f (sym (zero-add j)))

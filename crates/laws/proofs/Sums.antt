@@ -6,6 +6,7 @@ use Prim.Native.Nat.{ℕ, zero, suc, _+_, _*_, _≤_, _<_}
 use native.Mathlib.Nat.{add-zero}
 use native.Mathlib.Decide.{ℕ-discrete}
 use native.Mathlib.Omega.{arith}
+use lib.ListN.{length}
 use Rattle.laws.specs.Lists.{range, sum, has, those}
 use Rattle.laws.proofs.Bools.{by-test}
 use Rattle.laws.proofs.Lists.{has-head, has-tail, range-bounds}
@@ -56,6 +57,12 @@ pub sum-le : (f : ℕ → ℕ) (most : ℕ) (i n : ℕ) → ((j : ℕ) → f j �
 unfolding sum range
 sum-le f most i zero h = omega arith
 sum-le f most i (suc n) h = omega (arith, h i, sum-le f most (suc i) n h)
+
+-- the same of a list, where f is no more than `most` on it
+pub sum-within : (f : ℕ → ℕ) (most : ℕ) (l : List ℕ) → ((v : ℕ) → has l v ≡ true → f v ≤ most) → sum f l ≤ length l * most
+unfolding sum
+sum-within f most [] h = omega arith
+sum-within f most (v ∷ l) h = omega (arith, h v (has-head v l), sum-within f most l (λ u m. h u (has-tail v u l m)))
 
 -- one number more
 pub sum-snoc : (f : ℕ → ℕ) (i n : ℕ) → sum f (range i (suc n)) ≡ sum f (range i n) + f (i + n)

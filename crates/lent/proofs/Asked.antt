@@ -2,58 +2,21 @@
 use mathlib.Core.Path.{_≡_, refl, sym, ap, ap₂, _∙_}
 use mathlib.Core.Bool.{Bool, true, false, _&&_}
 use mathlib.Core.List.{List}
-use Prim.Native.Nat.{ℕ, suc, _+_, _*_, _≤_, _<_}
-use native.Mathlib.Nat.{mul-le-mul}
+use Prim.Native.Nat.{ℕ, suc, _+_, _≤_, _<_}
 use native.Mathlib.Omega.{arith}
 use lib.Dec.{leb}
 use lib.ListN.{length}
 use borrow.Author.Tests.{leb-true, le-leb, lt-leb}
-use Rattle.model.specs.File.{treeOf, demandOf, mostNodes, mostBudget, mostDepth}
 use Rattle.model.specs.Rules.{Verdict, passed, broken, ask, _then_, fileVerdict, accepted, scratchWords, askScratch, askBuffers}
 use Rattle.model.specs.Calls.{answered, refused, answer}
 use Rattle.model.specs.Hosts.{wordsAsked}
 use Rattle.model.proofs.Verdicts.{ask-passed, then-passed, answered-passed, refused-broken}
-use Rattle.model.proofs.Accepted.{accepted-header, accepted-sound}
-use Rattle.model.proofs.Bounds.{height-bound}
 use Rattle.fields.specs.declared.Tree as code
-use Rattle.tree_file.specs.Checks.{sizesOf}
-use Rattle.lent.specs.Lent.{AcceptedSizes, lentVerdict}
+use Rattle.tree_file.specs.Checks.{sizesOf, AcceptedSizes, SizesHold}
+use Rattle.tree_file.proofs.Accepted.{sizes-hold}
+use Rattle.lent.specs.Lent.{lentVerdict}
 
 -- ---- rule 13
-
--- the words grow with the sizes
-pub words-grow : {n h k n′ h′ k′ : ℕ} → n ≤ n′ → h ≤ h′ → k ≤ k′
-    → (n * (h + 1) ≤ n′ * (h′ + 1)) × (n * (h + 1) * (k + 1) ≤ n′ * (h′ + 1) * (k′ + 1))
-words-grow {h = h} {k = k} {h′ = h′} {k′ = k′} few low small =
-    let tall : h + 1 ≤ h′ + 1 = omega arith in
-    let wide : k + 1 ≤ k′ + 1 = omega arith in
-    let lines = mul-le-mul few tall in
-    (lines, mul-le-mul lines wide)
-
--- n, k and h of an accepted file are small
-pub record SizesHold (sizes : code.Tree) : Type 0 where
-  pub nodes : sizes .nodes ≤ mostNodes
-  pub budget : sizes .budget ≤ mostBudget
-  pub height : sizes .height ≤ mostDepth
-
-module _ {file : List ℕ} {sizes : code.Tree} (of : AcceptedSizes file sizes) where
-  pub sizes-hold : SizesHold sizes
-  sizes-hold =
-      let head = accepted-header file (of .accepted) in
-      rw (of .of-file) (record {
-        nodes = head .few;
-        budget = head .budget;
-        height = height-bound (treeOf file) (demandOf file) (accepted-sound file (of .accepted));
-      })
-
-  -- and so is what is asked for them
-  pub words-fit : (sizes .nodes * (sizes .height + 1) ≤ mostNodes * (mostDepth + 1))
-      × (sizes .nodes * (sizes .height + 1) * (sizes .budget + 1) ≤ mostNodes * (mostDepth + 1) * (mostBudget + 1))
-  words-fit = words-grow (sizes-hold .nodes) (sizes-hold .height) (sizes-hold .budget)
-
-  pub words-are : {r : ℕ} → r ≡ sizes .nodes * (sizes .height + 1) * (sizes .budget + 1) + 4 * sizes .nodes → r ≡ scratchWords file
-  unfolding scratchWords
-  words-are h = rw (of .of-file) at h
 
 module _ (file : List ℕ) where
   pub answered-sizes : {sizes : code.Tree} → answered sizes ≡ answer (fileVerdict file) (sizesOf file) → AcceptedSizes file sizes

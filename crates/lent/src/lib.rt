@@ -5,15 +5,17 @@ ghost use lib.Dec.{leb};
 ghost use Rattle.model.specs.Rules.{scratchWords};
 ghost use Rattle.model.specs.Calls.{answer};
 ghost use Rattle.model.specs.Hosts.{wordsAsked};
-ghost use Rattle.tree_file.specs.Checks.{answerOf, sizesOf};
-ghost use Rattle.lent.specs.Lent.{AcceptedSizes, lentVerdict};
+ghost use Rattle.tree_file.specs.Checks.{answerOf, sizesOf, AcceptedSizes};
+ghost use Rattle.lent.specs.Lent.{lentVerdict};
 
-// The words that rule 13 asks of an accepted file: n × (h + 1) × (k + 1) + 4 × n.
+// The words that rule 13 asks of an accepted file: where the lines of its nodes end.
 fn scratch_words(file: &[u8], tree: fields::Tree) -> usize
     requires { ⌜ AcceptedSizes (now file) tree ⌝ }
     ensures { λ r. ⌜ r ≡ scratchWords (now (file .entry)) ⌝ }
 {
-    tree.nodes * (tree.height + 1) * (tree.budget + 1) + 4 * tree.nodes
+    let mut starts = [0u32; fields::Tree::NODES];
+    let mut widths = [0u16; fields::Tree::NODES];
+    places::note_places(file, tree, &mut starts, &mut widths)
 }
 
 // Has a scratch of `words` words enough of them for an accepted file? That is rule 13.

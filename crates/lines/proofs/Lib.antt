@@ -1,6 +1,8 @@
+pub mod Entries
 pub mod RunningMin
-pub mod Fewer
 pub mod Node
+pub mod Place
 pub mod Row
 pub mod First
+pub mod LeastSplit
 pub mod HeldBest

@@ -1,33 +1,37 @@
--- Laws of a row's line: the loop over the counts that fit finds the least of all splits.
-use mathlib.Core.Path.{_≡_, refl, sym, _∙_}
+-- Laws of a row's line: a loop over the entries of the lines of its two parts finds the least of all splits.
+use mathlib.Core.Path.{_≡_, refl, sym, ap, _∙_}
 use mathlib.Core.List.{List, map}
 use mathlib.Core.Logic.{inl, inr, ⊎-elim, ⊎-map}
-use Prim.Native.Nat.{ℕ, suc, _+_, _-_, _≤_, _<_, min}
+use Prim.Native.Nat.{ℕ, zero, suc, _+_, _-_, _≤_, _<_, min}
 use native.Mathlib.Numerals.{add-one}
 use native.Mathlib.Decide.{decLt}
 use native.Mathlib.Omega.{arith}
-use lib.ListN.{length, take, getD, set, replicate, length-replicate, getD-replicate}
-use lib.Seq.{take-all, getD-set-same, getD-set-other, sets, length-sets}
+use lib.ListN.{length, take, getD, set}
+use lib.Seq.{take-all, getD-set-same, getD-set-other, sets}
 use Rattle.laws.specs.Lists.{range}
 use Rattle.laws.proofs.Lists.{length-of-range}
-use Rattle.laws.proofs.Stores.{entry-after}
+use Rattle.laws.proofs.Stores.{front-stored}
 use Rattle.laws.proofs.FrontValues.{same-on-range, front-is-entries}
-use Rattle.laws.proofs.Ranges.{entry-stored}
 use Rattle.best_rows.specs.Least.{runningMin}
 use Rattle.best_rows.specs.Best.{cap, split, rowBest}
 use Rattle.best_rows.proofs.Least.{running-min-is}
-use Rattle.lines.specs.Line.{mostWidth, NoFitFrom, LineParts, RowBounds, ownEnd, restEnd, RowParts, lineNode, lineSplit, lineBest, joinedSplit, joinedBest, Begun, Cleared, Lowered}
-use Rattle.lines.proofs.Node.{node-within, node-none}
+use Rattle.lines.specs.Line.{entryOf, Line, LineParts, RowParts, lineNode, lineOwn, lineSplit, lineBest, emptyBest, joinedSplit, joinedBest, Begun, Cleared, Lowered}
+use Rattle.lines.proofs.Entries.{entry-inside, entry-past, entry-of-rule}
+use Rattle.lines.proofs.Node.{node-none, own-without-caches, own-with-caches, empty-none, empty-some, leaf-none, leaf-one, leaf-more}
 use Rattle.lines.proofs.RunningMin.{running-min-within, running-min-same, running-min-leaves-out, running-min-reversed}
 
--- ---- the entries that are stored one by one from `end` on
+-- ---- the cap stored in one entry after the other from `end` on
 
 module _ (before : List ℕ) (end : ℕ) where
-  pub clear-begins : Cleared before end end before
-  clear-begins = record { kept = λ n h. refl; none = λ n h k. absurd (omega arith) }
+  -- as far as n
+  pub record ClearedTo (n : ℕ) (after : List ℕ) : Type 0 where
+    pub kept : (i : ℕ) → i < end → getD after i 0 ≡ getD before i 0
+    pub none : (i : ℕ) → end ≤ i → i < n → getD after i 0 ≡ cap
 
-  pub clear-next : (n : ℕ) (after : List ℕ) → end ≤ n → n < length after → Cleared before end n after
-      → Cleared before end (n + 1) (set after n cap)
+  pub clear-begins : ClearedTo end before
+  clear-begins = record { kept = λ i h. refl; none = λ i h k. absurd (omega arith) }
+
+  pub clear-next : (n : ℕ) (after : List ℕ) → end ≤ n → n < length after → ClearedTo n after → ClearedTo (n + 1) (set after n cap)
   clear-next n after from h so-far = record {
     kept = λ i k. getD-set-other after n i cap 0 (λ e. omega arith) ∙ so-far .kept i k;
     none =
@@ -38,8 +42,8 @@ module _ (before : List ℕ) (end : ℕ) where
         ];
   }
 
-  pub clear-fewer : {after : List ℕ} (w n : ℕ) → w ≤ n → Cleared before end n after → Cleared before end w after
-  clear-fewer w n h so-far = record { kept = so-far .kept; none = λ i k l. so-far .none i k (omega arith) }
+  pub clear-ends : (n : ℕ) (after : List ℕ) → length before ≤ n → ClearedTo n after → Cleared before end after
+  clear-ends n after h so-far = record { kept = so-far .kept; none = λ i k l. so-far .none i k (omega arith) }
 
 -- ---- one pass of the inner loop: line[r + n] becomes other[n] + x where that is smaller
 
@@ -47,177 +51,197 @@ module _ (before other : List ℕ) (r x : ℕ) where
   pub lower-begins : Lowered before other 0 r x before
   lower-begins = record { inside = λ n h. absurd (omega arith); outside = λ m h. refl }
 
-  module _ (n : ℕ) {after : List ℕ} {sum : ℕ} (so-far : Lowered before other n r x after) (is : sum ≡ getD other n 0 + x) where
-    here : getD after (r + n) 0 ≡ getD before (r + n) 0
-    here = so-far .outside (r + n) (inr (omega arith))
+  module _ (n : ℕ) {after : List ℕ} (so-far : Lowered before other n r x after) where
+    -- the next entry is as it was
+    pub lower-here : getD after (r + n) 0 ≡ getD before (r + n) 0
+    lower-here = so-far .outside (r + n) (inr (omega arith))
 
-    -- the next sum is less
-    pub lower-stores : r + n < length after → sum < getD after (r + n) 0 → Lowered before other (n + 1) r x (set after (r + n) sum)
-    lower-stores h less = record {
+    pub lower-next : {least : ℕ} → least ≡ min (getD after (r + n) 0) (getD other n 0 + x) → r + n < length after
+        → Lowered before other (n + 1) r x (set after (r + n) least)
+    lower-next {least} e h = record {
       inside =
           λ i k.
           elim (decLt i n) [
-            | yes l ↦ getD-set-other after (r + n) (r + i) sum 0 (λ e. omega arith) ∙ so-far .inside i l
-            | no l ↦ let last : i ≡ n = omega arith in rw last (getD-set-same after (r + n) sum 0 h ∙ omega (arith, here))
+            | yes l ↦ getD-set-other after (r + n) (r + i) least 0 (λ e. omega arith) ∙ so-far .inside i l
+            | no l ↦ let last : i ≡ n = omega arith in rw last (getD-set-same after (r + n) least 0 h ∙ omega (arith, lower-here))
           ];
       outside =
           λ m k.
-          getD-set-other after (r + n) m sum 0 (λ e. ⊎-elim (λ l. omega arith) (λ l. omega arith) k)
+          getD-set-other after (r + n) m least 0 (λ e. ⊎-elim (λ l. omega arith) (λ l. omega arith) k)
           ∙ so-far .outside m (⊎-map (λ l. l) (λ l. omega arith) k);
-    }
-
-    -- the next sum is not less
-    pub lower-stays : getD after (r + n) 0 ≤ sum → Lowered before other (n + 1) r x after
-    lower-stays more = record {
-      inside =
-          λ i k.
-          elim (decLt i n) [
-            | yes l ↦ so-far .inside i l
-            | no l ↦ let last : i ≡ n = omega arith in rw last (omega (arith, here))
-          ];
-      outside = λ m k. so-far .outside m (⊎-map (λ l. l) (λ l. omega arith) k);
     }
 
 -- ---- so a loop over r finds the least of all splits
 
-module _ (node rest : List ℕ) (w : ℕ) where
-  -- each entry is the least of its splits with fewer than r caches in `rest`
+module _ (first second : List ℕ) where
+  -- each entry is the least of its splits with fewer than r caches in `second`
   abbrev pub LeastBefore : ℕ → List ℕ → Type 0
-  LeastBefore r line = (m : ℕ) → m < w → getD line m 0 ≡ runningMin cap (joinedSplit node rest m) (min r (m + 1))
+  LeastBefore r line = (m : ℕ) → m < length line → getD line m 0 ≡ runningMin cap (joinedSplit first second m) (min r (m + 1))
 
-  pub row-begins : (e : ℕ) (line after : List ℕ) {x : ℕ} → NoFitFrom e w node → x ≡ getD rest 0 0 → Begun node e x line
-      → Cleared line e w after → LeastBefore 1 after
+  pub least-line : (r : ℕ) (line : List ℕ) → 0 < length line → LeastBefore r line → Line line
+  least-line r line some so-far = record {
+    some = some;
+    within =
+        λ n.
+        elim (decLt n (length line)) [
+          | yes l ↦ omega (arith, entry-inside line n l, so-far n l, running-min-within cap (joinedSplit first second n) (min r (n + 1)))
+          | no l ↦ omega (arith, entry-past line n (omega arith))
+        ];
+  }
+
+  pub row-begins : (line after : List ℕ) {x : ℕ} → length after ≡ length line → 0 < length second → x ≡ getD second 0 0
+      → Begun first x line → Cleared line (length first) after → LeastBefore 1 after
   unfolding runningMin
-  row-begins e line after none hx begun cleared m h =
+  row-begins line after long some hx begun cleared m h =
       let one : min 1 (m + 1) ≡ 1 = omega arith in
       let all : m - 0 ≡ m = omega arith in
       rw (one, all)
-      (elim (decLt m e) [
-        | yes l ↦ omega (arith, cleared .kept m l, begun m l)
-        | no l ↦ omega (arith, cleared .none m (omega arith) h, none m (omega arith) h)
+      (elim (decLt m (length first)) [
+        | yes l ↦ omega (arith, cleared .kept m l, begun m l, entry-inside first m l, entry-inside second 0 some)
+        | no l ↦ omega (arith, cleared .none m (omega arith) (omega arith), entry-past first m (omega arith))
       ])
 
-  pub row-turns : (e r end : ℕ) (line after : List ℕ) {x : ℕ} → NoFitFrom e w node → x ≡ getD rest r 0 → end ≡ min e (w - r)
-      → LeastBefore r line → Lowered line node end r x after → LeastBefore (r + 1) after
+  pub row-turns : (r end : ℕ) (line after : List ℕ) {x : ℕ} → length after ≡ length line → r < length second → x ≡ getD second r 0
+      → end ≡ min (length first) (length line - r) → LeastBefore r line → Lowered line first end r x after → LeastBefore (r + 1) after
   unfolding runningMin
-  row-turns e r end line after none hx he so-far lowered m h =
+  row-turns r end line after long some hx he so-far lowered m h =
+      let before = so-far m (omega arith) in
       elim (decLt m r) [
         | yes l ↦
             let all : min (r + 1) (m + 1) ≡ min r (m + 1) = omega arith in
-            rw all (lowered .outside m (inl l) ∙ so-far m h)
+            rw all (lowered .outside m (inl l) ∙ before)
         | no l ↦
             let next : min (r + 1) (m + 1) ≡ suc r = omega arith in
             let last : min r (m + 1) ≡ r = omega arith in
             let here : r + (m - r) ≡ m = omega arith in
             rw next
             (elim (decLt (m - r) end) [
-              | yes i ↦ omega (arith, rw here at (lowered .inside (m - r) i), rw last at (so-far m h))
+              | yes i ↦
+                  omega (arith, rw here at (lowered .inside (m - r) i), rw last at before, entry-inside first (m - r) (omega arith), entry-inside second r some)
               | no i ↦
-                  omega (arith, lowered .outside m (inr (omega arith)), rw last at (so-far m h), none (m - r) (omega arith) (omega arith), running-min-within cap (joinedSplit node rest m) r)
+                  omega (arith, lowered .outside m (inr (omega arith)), rw last at before, entry-past first (m - r) (omega arith), running-min-within cap (joinedSplit first second m) r)
             ])
       ]
 
-  pub row-ends : (e : ℕ) (line : List ℕ) → length line ≡ w → NoFitFrom e w rest → LeastBefore e line
-      → line ≡ map (joinedBest node rest) (range 0 w)
+  pub row-ends : (r w : ℕ) (line : List ℕ) → length line ≡ w → length second ≤ r → LeastBefore r line
+      → line ≡ map (joinedBest first second) (range 0 w)
   unfolding joinedBest
-  row-ends e line long none so-far =
+  row-ends r w line long all so-far =
       sym (take-all w line (omega arith))
       ∙ front-is-entries w line (omega arith)
       ∙ same-on-range _ _ 0 w
       (λ m _ k.
       so-far m (omega arith)
-      ∙ running-min-leaves-out cap (joinedSplit node rest m) (min e (m + 1)) (m + 1) (omega arith) (λ i p q. omega (arith, none i (omega arith) (omega arith))))
+      ∙ running-min-leaves-out cap (joinedSplit first second m) (min r (m + 1)) (m + 1) (omega arith) (λ i p q. omega (arith, entry-past second i (omega arith))))
 
 -- ---- the parts may change places
 
-pub row-parts-swapped : {w a b : ℕ} {node rest : List ℕ} → RowParts w node rest a b → RowParts w rest node b a
-row-parts-swapped p = record {
-  nonempty = p .nonempty;
-  long = (p .long .1, p .long .0);
-  ends = (p .ends .1, p .ends .0);
-  none = (p .none .1, p .none .0);
-  fits = λ m n h k. omega (arith, p .fits n m k h);
-}
+pub row-parts-swapped : {w : ℕ} {first second : List ℕ} → RowParts w first second → RowParts w second first
+row-parts-swapped p = record { first-line = p .second-line; second-line = p .first-line; ends = (p .ends .1, p .ends .0) }
 
-joined-best-swapped : (node rest : List ℕ) (m : ℕ) → joinedBest node rest m ≡ joinedBest rest node m
+joined-best-swapped : (first second : List ℕ) (m : ℕ) → joinedBest first second m ≡ joinedBest second first m
 unfolding joinedBest
-joined-best-swapped node rest m =
-    running-min-reversed cap (joinedSplit node rest m) (joinedSplit rest node m) m
+joined-best-swapped first second m =
+    running-min-reversed cap (joinedSplit first second m) (joinedSplit second first m) m
     (λ i h. let back : m - (m - i) ≡ i = omega arith in rw back (omega arith))
 
-pub joined-swapped : (node rest : List ℕ) (w : ℕ) → map (joinedBest node rest) (range 0 w) ≡ map (joinedBest rest node) (range 0 w)
-joined-swapped node rest w = same-on-range (joinedBest node rest) (joinedBest rest node) 0 w (λ m _ _. joined-best-swapped node rest m)
+pub joined-swapped : (first second : List ℕ) (w : ℕ)
+    → map (joinedBest first second) (range 0 w) ≡ map (joinedBest second first) (range 0 w)
+joined-swapped first second w = same-on-range _ _ 0 w (λ m _ _. joined-best-swapped first second m)
 
--- ---- all entries, from a node's line and the later siblings' line, each stored up to its end in a line of caps
+-- ---- a line stored at the front of an array is what its front holds
 
-module _ (f : ℕ → ℕ) (e n : ℕ) where
-  abbrev stored : List ℕ
-  stored = sets (replicate mostWidth cap) 0 (map f (range 0 e))
+pub own-taken : (l : List ℕ) (f : ℕ → ℕ) (own : ℕ) → own ≤ length l → take own (sets l 0 (map f (range 0 own))) ≡ map f (range 0 own)
+own-taken l f own h = front-stored l (map f (range 0 own)) own (length-of-range f 0 own) h
 
-  stored-entry : e ≤ mostWidth → n < e → getD stored n 0 ≡ f n
-  stored-entry h l = entry-stored (replicate mostWidth cap) f e n (rw length-replicate h) l
+pub rest-taken : (l rest : List ℕ) → length rest ≤ length l → take (length rest) (sets l 0 rest) ≡ rest
+rest-taken l rest h = front-stored l rest (length rest) refl h
 
-  stored-none : e ≤ n → n < mostWidth → getD stored n 0 ≡ cap
-  stored-none h k =
-      entry-after (replicate mostWidth cap) 0 (map f (range 0 e)) n (rw (length-of-range f 0 e) (omega arith))
-      ∙ getD-replicate mostWidth n cap 0 k
+-- ---- the line of a row of w entries, from its node's own line and its later siblings'
 
-module _ {cached uncached rest : List ℕ} {member other w below after : ℕ} (parts : LineParts w cached uncached rest member other)
-    (bounds : RowBounds w cached uncached rest below after) (nonempty : 0 < w) (wide : w ≤ mostWidth) {node copy : List ℕ}
-    (known : node ≡ sets (replicate mostWidth cap) 0 (map (lineNode cached uncached member other) (range 0 (ownEnd w below))))
-    (copied : copy ≡ sets (replicate mostWidth cap) 0 (take (restEnd w after) rest)) where
-  abbrev end : ℕ
-  end = ownEnd w below
+module _ {cached uncached rest node : List ℕ} {member other w own : ℕ} (parts : LineParts cached uncached rest member other)
+    (nonempty : 0 < w) (few : length rest ≤ w) (own-is : own ≡ min w (length cached + 1))
+    (node-is : node ≡ map (lineOwn cached uncached member other) (range 0 own)) where
+  node-long : length node ≡ own
+  node-long = rw node-is (length-of-range (lineOwn cached uncached member other) 0 own)
 
-  entry-known : (n : ℕ) → n < end → getD node n 0 ≡ lineNode cached uncached member other n
-  entry-known n h = rw known (stored-entry _ end n (omega arith) h)
+  node-inside : (n : ℕ) → n < own → entryOf node n ≡ min cap (lineNode cached uncached member other n)
+  unfolding lineOwn
+  node-inside n h = rw node-is (entry-of-rule (lineOwn cached uncached member other) own n h)
 
-  entry-none : (n : ℕ) → end ≤ n → n < w → getD node n 0 ≡ cap
-  entry-none n h k = rw known (stored-none _ end n h (omega arith))
+  node-past : (n : ℕ) → own ≤ n → entryOf node n ≡ cap
+  node-past n h = entry-past node n (omega (arith, node-long))
 
-  entry-within : (n : ℕ) → n < w → getD node n 0 ≤ cap + cap
-  entry-within n h =
-      elim (decLt n end) [
-        | yes l ↦ omega (arith, entry-known n l, node-within cached uncached member other n w h (parts .node-parts))
-        | no l ↦ omega (arith, entry-none n (omega arith) h)
-      ]
-
-  -- where no more caches fit both lines hold the cap
-  entry-copied : (n : ℕ) → n < w → getD copy n 0 ≡ getD rest n 0
-  entry-copied n h =
-      rw (copied, front-is-entries (restEnd w after) rest (omega (arith, parts .rest-line .long)))
-      (elim (decLt n (restEnd w after)) [
-        | yes l ↦ stored-entry _ (restEnd w after) n (omega arith) l
-        | no l ↦
-            stored-none _ (restEnd w after) n (omega arith) (omega arith)
-            ∙ omega (arith, bounds .rest-none n (omega arith) h, parts .rest-line .within n h)
-      ])
-
-  pub row-parts : RowParts w node copy (ownEnd w below) (restEnd w after)
-  unfolding cap
-  row-parts = record {
-    nonempty = nonempty;
-    long = (rw (known, length-sets) (rw length-replicate wide), rw (copied, length-sets) (rw length-replicate wide));
-    ends = (omega arith, omega arith);
-    none = (λ n h k. omega (arith, entry-none n h k), λ n h k. omega (arith, entry-copied n k, bounds .rest-none n (omega arith) k));
-    fits = λ m n h k. omega (arith, entry-within m h, entry-copied n k, parts .rest-line .within n k);
+  node-line : Line node
+  node-line = record {
+    some = omega (arith, node-long);
+    within =
+        λ n.
+        elim (decLt n own) [
+          | yes l ↦ omega (arith, node-inside n l)
+          | no l ↦ omega (arith, node-past n (omega arith))
+        ];
   }
 
-  row-is-best : (m : ℕ) → m < w → joinedBest node copy m ≡ lineBest cached uncached rest member other m
+  pub row-parts : RowParts w node rest
+  row-parts = record { first-line = node-line; second-line = parts .rest-line; ends = (omega (arith, node-long), few) }
+
+  -- the entry is the least cost where more caches than the line has entries do not fit
+  node-entry : (n : ℕ) → n < w → entryOf node n ≡ min cap (lineNode cached uncached member other n)
+  node-entry n h =
+      elim (decLt n own) [
+        | yes l ↦ node-inside n l
+        | no l ↦ omega (arith, node-past n (omega arith), node-none cached uncached member other n (parts .node-parts) (omega arith))
+      ]
+
+  row-is-best : (m : ℕ) → m < w → joinedBest node rest m ≡ lineBest cached uncached rest member other m
   unfolding joinedBest lineBest lineNode split rowBest
   row-is-best m h =
-      running-min-same cap (joinedSplit node copy m) (lineSplit cached uncached rest member other m) (m + 1)
-      (λ i l.
-      elim (decLt (m - i) end) [
-        | yes k ↦ omega (arith, entry-known (m - i) k, entry-copied i (omega arith))
-        | no k ↦
-            omega (
-              arith,
-              entry-none (m - i) (omega arith) (omega arith),
-              node-none cached uncached member other (m - i) w below (bounds .cached-none) (bounds .uncached-none) (omega arith) (omega arith),
-            )
-      ])
+      running-min-same cap (joinedSplit node rest m) (lineSplit cached uncached rest member other m) (m + 1)
+      (λ i l. omega (arith, node-entry (m - i) (omega arith)))
       ∙ rw (add-one m) (running-min-is (lineSplit cached uncached rest member other m) cap m)
 
-  pub row-is-line : map (joinedBest node copy) (range 0 w) ≡ map (lineBest cached uncached rest member other) (range 0 w)
-  row-is-line = same-on-range (joinedBest node copy) (lineBest cached uncached rest member other) 0 w (λ m _ h. row-is-best m (omega arith))
+  pub row-is-line : map (joinedBest node rest) (range 0 w) ≡ map (lineBest cached uncached rest member other) (range 0 w)
+  row-is-line = same-on-range _ _ 0 w (λ m _ h. row-is-best m (omega arith))
+
+-- ---- rows of one part: where the other has no node, entry n of its line is the least cost of the empty row
+
+module _ (cached uncached rest : List ℕ) (member other m : ℕ) where
+  best-is-least : lineBest cached uncached rest member other m ≡ runningMin cap (lineSplit cached uncached rest member other m) (m + 1)
+  unfolding lineBest rowBest
+  best-is-least = sym (rw (add-one m) (running-min-is (lineSplit cached uncached rest member other m) cap m))
+
+  -- no later siblings
+  pub best-is-own : ((n : ℕ) → entryOf rest n ≡ emptyBest n)
+      → lineBest cached uncached rest member other m ≡ lineOwn cached uncached member other m
+  unfolding lineOwn runningMin split
+  best-is-own none =
+      let all : m - 0 ≡ m = omega arith in
+      best-is-least
+      ∙ sym (running-min-leaves-out cap (lineSplit cached uncached rest member other m) 1 (m + 1) (omega arith)
+      (λ i h _. omega (arith, none i, empty-some i h)))
+      ∙ rw (all, none 0, empty-none 0 refl) (omega arith)
+
+-- no children: the row costs what a node would whose children are the later siblings
+pub leaf-is-own : (cached uncached rest : List ℕ) (member other m : ℕ) → ((n : ℕ) → entryOf cached n ≡ emptyBest n)
+    → ((n : ℕ) → entryOf uncached n ≡ emptyBest n) → lineBest cached uncached rest member other m ≡ lineOwn rest rest member other m
+unfolding runningMin split
+leaf-is-own cached uncached rest member other zero c u =
+    best-is-least cached uncached rest member other 0
+    ∙ omega (arith, leaf-none cached uncached member other 0 c u refl, own-without-caches rest rest member other 0 refl)
+leaf-is-own cached uncached rest member other (suc k) c u =
+    let f = lineSplit cached uncached rest member other (suc k) in
+    let last : suc k + 1 ≡ suc (suc k) = omega arith in
+    let before : cap ≡ runningMin cap f k =
+    running-min-leaves-out cap f 0 k (omega arith) (λ i _ h. omega (arith, leaf-more cached uncached member other (suc k - i) c u (omega arith))) in
+    let one : entryOf rest (suc k - 1) ≡ entryOf rest k = ap (entryOf rest) (omega arith) in
+    best-is-least cached uncached rest member other (suc k)
+    ∙ rw last
+    (omega (
+      arith,
+      before,
+      leaf-one cached uncached member other (suc k - k) c u (omega arith),
+      leaf-none cached uncached member other (suc k - suc k) c u (omega arith),
+      own-with-caches rest rest member other (suc k) (omega arith),
+      one,
+    ))

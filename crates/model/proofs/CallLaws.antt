@@ -23,6 +23,7 @@ use Rattle.model.specs.Hosts.{codeUnit, codeOf, HostBillMemory, hostBill
 use Rattle.model.specs.Laws.{RanksFirst}
 use Rattle.model.specs.CallLaws.{RankingSaid, CodeSaid, StaysFrom, CallsLawful}
 use Rattle.model.proofs.Verdicts.{ask-passed, then-passed, answered-passed, refused-broken}
+use Rattle.model.proofs.Words.{words-fewer, words-most}
 use Rattle.model.proofs.Order.{smaller-said}
 use Rattle.model.proofs.Plans.{only-plan}
 use Rattle.model.proofs.Codes.{Numbered, code-reads, code-none, bill-numbered, plan-numbered, greedy-numbered, report-numbered}
@@ -158,6 +159,8 @@ calls-lawful file =
       greedyFits = λ totals nodes. both-fit totals nodes (length-greedy-totals file) (length-greedy-row file);
       demandMet = λ memory memory′ c. c .demandThree refl;
       reportFits = λ memory. (both (planBuffersLong file (memory .planTotals) (memory .planRows)) (greedyBuffersLong file (memory .greedyTotals) (memory .greedyNodes)), λ h. rw (h .0, h .1));
+      wordsFewer = words-fewer file;
+      wordsMost = words-most file;
       planFrees = λ memory memory′ c. stays-from (scratchWords file) (memory .scratch) (memory′ .scratch) (c .scratchAfter);
       greedyFrees = λ memory memory′ c. stays-from (scratchWords file) (memory .scratch) (memory′ .scratch) (c .scratchAfter);
       reportFrees = λ memory memory′ c. stays-from (scratchWords file) (memory .scratch) (memory′ .scratch) (c .scratchAfter);

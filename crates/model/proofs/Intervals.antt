@@ -73,6 +73,14 @@ module _ (t : Tree) (pre : Preorder t) where
   pub below-trans : (v i c : ℕ) → atOrBelow t v i ≡ true → atOrBelow t i c ≡ true → atOrBelow t v c ≡ true
   below-trans v i c h k = both (atOrBelow t v c) (leb v i) (sym (rest-of-route i v c k) ∙ h) .0
 
+  -- no node is at or below two siblings
+  pub siblings-apart : (v s c : ℕ) → 1 ≤ v → v < s → t .parent s ≡ t .parent v → atOrBelow t v c ≡ true → atOrBelow t s c ≡ false
+  siblings-apart v s c site later e h =
+      by-test (λ b. atOrBelow t s c ≡ b → b ≡ false) (atOrBelow t s c)
+      (λ _ m. absurd (not-both (rest-of-route s v c m ∙ rw (h, le-leb v s (omega arith)))
+      (below-parent v s later ∙ rw e (before-not-below v (t .parent v) (parent-earlier v site)))))
+      (λ _ _. refl) refl
+
   -- ---- the run of nodes
 
   -- the next node is at or below v too unless its parent comes before v

@@ -16,6 +16,7 @@ use Rattle.model.proofs.Nearest.{distance-grows, cost-is}
 use Rattle.model.proofs.Loads.{links-total}
 use Rattle.model.proofs.BillLaws.{serving-serves, only-serving, cost-least, cost-reached, load-said}
 use Rattle.model.proofs.Bounds.{total-bound}
+use Rattle.model.proofs.Words.{row-said}
 use Rattle.model.proofs.Ascending.{set-said, set-ascends}
 use Rattle.model.proofs.Sets.{all-sets}
 use Rattle.model.proofs.Order.{rank-irreflexive, rank-transitive, rank-total, ties-said}
@@ -64,4 +65,5 @@ lawful file fits =
       bytesPriceExact = λ c v x e b. mul-le-mul (bytes-within c _ x e (holds c)) (distance-grows t pre v c b);
       ratioLoadExact = λ c p e. ratio-within c _ p e (holds c);
       bytesLoadExact = λ c x e. bytes-within c _ x e (holds c);
+      rowSaid = row-said t pre;
     }

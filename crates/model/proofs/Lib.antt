@@ -11,6 +11,7 @@ pub mod Nearest
 pub mod Loads
 pub mod Children
 pub mod Bounds
+pub mod Words
 pub mod Ascending
 pub mod Sets
 pub mod Order

@@ -1,4 +1,4 @@
--- The definitions agree with document 01's worked cases that it does not mark, and with those of 02, items 2, 4 and 9, on
+-- The definitions agree with document 01's worked cases that it does not mark, and with those of 02, items 2, 3, 4 and 9, on
 -- bytes written out.
 use mathlib.Core.Path.{_≡_, refl}
 use mathlib.Core.List.{List, [], _∷_, flatMap}
@@ -6,7 +6,7 @@ use Prim.Native.Nat.{ℕ, zero, suc, _*_, _<_}
 use native.Mathlib.Omega.{arith}
 use Rattle.laws.specs.Lists.{range, sum, least, greatest, has, anyOf, allOf, those, howMany, firstThat, same}
 use Rattle.model.specs.File.{number, parentField, lengthField, flowField, hitField, cachableField, hasRatios, hasOpenBytes, recordLength, fieldOf, openOf, shareOf, treeOf, demandOf}
-use Rattle.model.specs.Tree.{climb, route, atOrBelow, depth, height, distance}
+use Rattle.model.specs.Tree.{climb, route, atOrBelow, nodesOfRow, depth, height, distance}
 use Rattle.model.specs.Rules.{Verdict, parentHolds, lengthHolds, recordVerdict, recordsVerdict, marked, fileVerdict, accepted, ascends, isSet, scratchWords}
 use Rattle.model.specs.Bill.{whole, cachable, price, cost, total, upTo, clientLoad, linkLoad, serving}
 use Rattle.model.specs.Ties.{smallerFirst, members, visits, tiesBefore, ranksBefore}
@@ -68,7 +68,7 @@ of-two P a b (suc zero) h = b
 of-two P a b (suc (suc f)) h = absurd (omega arith)
 
 pub worked : Worked
-unfolding fileA secondA thirdA closedLast visited largest secondLargest threeSevenths tooMuch eachKind secondEachKind tooLong bytesOf headerBytes recordOf treeA flatMap range sum least greatest has anyOf allOf those howMany firstThat same number hasRatios hasOpenBytes recordLength fieldOf openOf shareOf climb route atOrBelow depth height distance parentHolds lengthHolds recordVerdict recordsVerdict marked fileVerdict accepted ascends isSet scratchWords whole cachable price cost total upTo clientLoad linkLoad serving smallerFirst members visits tiesBefore ranksBefore setsOf firstOf plan withNode withNodes leastNode stepOver takenFrom checkNumber recordBytes billVerdict rankVerdict ranking planTotals planRows planVerdict greedyTotals greedyRow greedyVerdict setOfRow reportVerdict digits decimal line reportText refusalText verdictWithin textWithin wordsAsked hostBillVerdict firstSituation costIn paperCost situation
+unfolding fileA secondA thirdA closedLast visited largest secondLargest threeSevenths tooMuch eachKind secondEachKind tooLong bytesOf headerBytes recordOf treeA flatMap range sum least greatest has anyOf allOf those howMany firstThat same number hasRatios hasOpenBytes recordLength fieldOf openOf shareOf climb route atOrBelow nodesOfRow depth height distance parentHolds lengthHolds recordVerdict recordsVerdict marked fileVerdict accepted ascends isSet scratchWords whole cachable price cost total upTo clientLoad linkLoad serving smallerFirst members visits tiesBefore ranksBefore setsOf firstOf plan withNode withNodes leastNode stepOver takenFrom checkNumber recordBytes billVerdict rankVerdict ranking planTotals planRows planVerdict greedyTotals greedyRow greedyVerdict setOfRow reportVerdict digits decimal line reportText refusalText verdictWithin textWithin wordsAsked hostBillVerdict firstSituation costIn paperCost situation
 worked = record {
   files = record {
     offsets = refl;
@@ -331,7 +331,17 @@ worked = record {
     orderTaken = refl;
     setOfRowOne = refl;
     setOfRowTwo = refl;
+    nodesOfRowsOfA = refl;
+    nodesOfRowsOfEachKind = refl;
+    nodesOfTwoFamilies = refl;
+    scratchOfNone = refl;
+    scratchOfThree = refl;
+    scratchOfFour = refl;
+    scratchOfMost = refl;
+    scratchOfServer = refl;
+    scratchOfSiblings = refl;
     scratchOfChain = refl;
+    scratchOfDeepChain = refl;
     planPasses = refl;
     planScratchShort = refl;
     planTotalsShort = refl;

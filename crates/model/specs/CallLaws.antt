@@ -7,8 +7,9 @@ use mathlib.Core.List.{List, [], _∷_}
 use mathlib.Core.Logic.{_↔_}
 use Prim.Native.Nat.{ℕ, _+_, _*_, _-_, _/_, _%_, _≤_}
 use lib.ListN.{length, getD}
-use Rattle.model.specs.File.{treeOf, demandOf, budgetOf}
-use Rattle.model.specs.Rules.{Verdict, passed, broken, isSet, scratchWords}
+use Rattle.model.specs.File.{treeOf, demandOf, countOf, budgetOf}
+use Rattle.model.specs.Tree.{height}
+use Rattle.model.specs.Rules.{Verdict, passed, broken, fileVerdict, isSet, scratchWords}
 use Rattle.model.specs.Bill.{linkTotal}
 use Rattle.model.specs.Ties.{ranksBefore}
 use Rattle.model.specs.Plan.{plan, planTotal}
@@ -68,6 +69,9 @@ pub record CallsLawful (file : List ℕ) : Type 0 where
   pub reportFits : (memory : ReportMemory) → reportBuffersLong file memory ≡ true
       ↔ ((planBuffersLong file (memory .planTotals) (memory .planRows) ≡ true)
       × (greedyBuffersLong file (memory .greedyTotals) (memory .greedyNodes) ≡ true))
+  -- 13: never more words than 01 asked for, n × (h + 1) × (k + 1) + 4 × n; and at most 1,023 × 32 × 33 + 4 × 1,024
+  pub wordsFewer : scratchWords file ≤ countOf file * (height (treeOf file) + 1) * (budgetOf file + 1) + 4 * countOf file
+  pub wordsMost : fileVerdict file ≡ passed → scratchWords file ≤ 1_084_384
   -- "Only scratch after an accepted call is free": the words that question 13 asks for; and a refusal keeps all
   pub planFrees : (memory memory′ : PlanMemory) → PlanCall file memory passed memory′
       → StaysFrom (scratchWords file) (memory .scratch) (memory′ .scratch)

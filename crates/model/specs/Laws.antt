@@ -1,16 +1,16 @@
--- The laws of the definitions, a to m, on one page. They are proved for every accepted file: `lawful` in proofs/Laws.
+-- The laws of the definitions, a to n, on one page. They are proved for every accepted file: `lawful` in proofs/Laws.
 -- Numbers are written out here, so that a wrong constant breaks a law. Laws of calls are in `CallLaws`, of a file's version in
 -- `Versions`, of a client's situation in `Situations`, and of files that add in `Adds`.
 use mathlib.Core.Path.{_≡_}
-use mathlib.Core.Bool.{true, false, _||_}
+use mathlib.Core.Bool.{true, false, _&&_, _||_}
 use mathlib.Core.List.{List, [], List·Memᴰ}
 use mathlib.Core.Logic.{_↔_, _⊎_}
 use Prim.Native.Nat.{ℕ, _*_, _-_, _≤_, _<_}
 use lib.Dec.{eqb}
 use lib.ListN.{length, take, getD}
-use Rattle.laws.specs.Lists.{sum, has, howMany}
+use Rattle.laws.specs.Lists.{range, sum, has, anyOf, howMany}
 use Rattle.model.specs.File.{Tree, ratio, bytes, Demand}
-use Rattle.model.specs.Tree.{server, nodes, route, atOrBelow, distance}
+use Rattle.model.specs.Tree.{server, nodes, route, atOrBelow, nodesOfRow, distance}
 use Rattle.model.specs.Rules.{ascends, isSet}
 use Rattle.model.specs.Bill.{totalLimit, price, cost, total, linkLoad, linkTotal, serving}
 use Rattle.model.specs.Ties.{tiesBefore, ranksBefore}
@@ -155,3 +155,6 @@ pub record Lawful (t : Tree) (d : Demand) : Type 0 where
   pub bytesPriceExact : (c v b : ℕ) → d .share c ≡ bytes b → atOrBelow t v c ≡ true → b * distance t v ≤ d .flow c * distance t c
   pub ratioLoadExact : (c p : ℕ) → d .share c ≡ ratio p → p ≤ 1000
   pub bytesLoadExact : (c b : ℕ) → d .share c ≡ bytes b → b ≤ d .flow c
+  -- n. r(v) counts each node at or below v or one of its later siblings once.
+  pub rowSaid : (v : ℕ) → 1 ≤ v
+      → nodesOfRow t v ≡ howMany (λ c. anyOf (λ s. eqb (t .parent s) (t .parent v) && atOrBelow t s c) (range v (t .count - v))) (nodes t)

@@ -1,14 +1,14 @@
--- Document 01, "The questions, in this order", with 02, items 2 and 9: each rule, and what a file, a set, a scratch and a buffer
+-- Document 01, "The questions, in this order", with 02, items 2, 3 and 9: each rule, and what a file, a set, a scratch and a buffer
 -- must fulfil.
 -- "Rule N" is question N. The order in which a call asks them is in Calls.
 use mathlib.Core.Bool.{Bool, true, false, cond, _&&_}
 use mathlib.Core.List.{List, [], _∷_}
-use Prim.Native.Nat.{ℕ, zero, suc, _+_, _*_}
+use Prim.Native.Nat.{ℕ, zero, suc, _+_, _*_, min}
 use lib.Dec.{leb, ltb, eqb}
 use lib.ListN.{length, take}
-use Rattle.laws.specs.Lists.{has, allOf, same}
+use Rattle.laws.specs.Lists.{sum, has, allOf, same}
 use Rattle.model.specs.File.{Tree, Share, ratio, bytes, treeOf, demandOf, mostNodes, mostBudget, mostDepth, mark, firstVersion, thirdVersion, headerLength, versionOf, countOf, budgetOf, hasOpenBytes, recordAt, lengthField, flowField, hitField, openField, fieldOf}
-use Rattle.model.specs.Tree.{route, depth, height}
+use Rattle.model.specs.Tree.{sites, route, depth, nodesOfRow}
 
 -- no rule broken so far, or the first broken one: its number and its record
 pub data Verdict : Type 0 where
@@ -106,11 +106,11 @@ isSet t k = ascends 0 (t .count) k && allOf (t .isOpen) k
 abbrev pub askSet : List ℕ → List ℕ → Verdict
 askSet s k = ask 12 0 (isSet (treeOf s) k)
 
--- n × (h + 1) × (k + 1) + 4 × n
+-- "the sum over nodes v from 1 on of depth(v) × (min(k, r(v)) + 1), plus 4 × n words"
 unfoldable pub scratchWords : List ℕ → ℕ
 scratchWords s =
     let t = treeOf s in
-    t .count * (height t + 1) * (budgetOf s + 1) + 4 * t .count
+    sum (λ v. depth t v * (min (budgetOf s) (nodesOfRow t v) + 1)) (sites t) + 4 * t .count
 
 -- "Scratch is enough when 13 passes"
 abbrev pub enoughScratch : List ℕ → List ℕ → Bool

@@ -1,9 +1,10 @@
--- Document 01, "Tree file" and "Distances and the bill": routes, depths and distances in a tree.
+-- Document 01, "Tree file" and "Distances and the bill", with 02, item 3: routes, depths, distances and rows in a tree.
 use mathlib.Core.Bool.{Bool}
 use mathlib.Core.List.{List, [], _∷_}
 use Prim.Native.Nat.{ℕ, zero, suc, _-_}
+use lib.Dec.{eqb}
 use lib.ListN.{length}
-use Rattle.laws.specs.Lists.{range, sum, greatest, has, those}
+use Rattle.laws.specs.Lists.{range, sum, greatest, has, those, howMany}
 use Rattle.model.specs.File.{Tree}
 
 -- "Node 0 is the server"
@@ -36,6 +37,14 @@ module _ (t : Tree) where
   -- is c at or below v?
   unfoldable pub atOrBelow : ℕ → ℕ → Bool
   atOrBelow v c = has (route c) v
+
+  -- v, from 1 on, and "its later siblings": the nodes from v on that have v's parent
+  abbrev pub siblingsFrom : ℕ → List ℕ
+  siblingsFrom v = those (λ s. eqb (t .parent s) (t .parent v)) (range v (t .count - v))
+
+  -- "r(v) counts the nodes at or below v and at or below its later siblings", closed ones too
+  unfoldable pub nodesOfRow : ℕ → ℕ
+  nodesOfRow v = sum (λ s. howMany (atOrBelow s) nodes) (siblingsFrom v)
 
   -- "Depth counts links to the server"
   unfoldable pub depth : ℕ → ℕ

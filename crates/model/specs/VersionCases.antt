@@ -65,14 +65,14 @@ pub record SecondCases : Type 0 where
   pub seventeenFirst : billVerdict tooMuch (5 ∷ []) (billMemory 0 0) ≡ broken 17 1
   pub setOver : billVerdict secondA (5 ∷ []) (billMemory 0 0) ≡ broken 12 0
   pub loadsShort : billVerdict secondA (4 ∷ []) (billMemory 5 4) ≡ broken 14 0
-  pub planPasses : planVerdict secondA (planMemory 65 3 6) ≡ passed
-  pub planScratchShort : planVerdict secondA (planMemory 64 0 0) ≡ broken 13 0
-  pub planRowsShort : planVerdict secondA (planMemory 65 3 5) ≡ broken 14 0
+  pub planPasses : planVerdict secondA (planMemory 35 3 6) ≡ passed
+  pub planScratchShort : planVerdict secondA (planMemory 34 0 0) ≡ broken 13 0
+  pub planRowsShort : planVerdict secondA (planMemory 35 3 5) ≡ broken 14 0
   -- what the plan and the greedy rule write
   pub totalsOfPlan : planTotals secondA ≡ 140000 ∷ 60000 ∷ 20000 ∷ []
   pub rowsOfPlan : planRows secondA ≡ 0 ∷ 0 ∷ 1 ∷ 0 ∷ 2 ∷ 3 ∷ []
   pub totalsOfGreedy : greedyTotals secondA ≡ 140000 ∷ 60000 ∷ 40000 ∷ []
-  pub wordsOfSecondA : wordsAsked secondA ≡ 65
+  pub wordsOfSecondA : wordsAsked secondA ≡ 35
   -- 12,297 bytes pass 6, where node 0 has parent 1; one byte less does not
   pub longestFile : fileVerdict (secondHeader 0x04 0x00 0x00 0x20 ++ (0x00 ∷ 0x01 ∷ replicate 12286 0x00)) ≡ broken 7 0
   pub longestShort : fileVerdict (secondHeader 0x04 0x00 0x00 0x20 ++ replicate 12287 0x00) ≡ broken 6 0
@@ -148,16 +148,16 @@ pub record ThirdCases : Type 0 where
   pub totalOfTwo : total (treeOf thirdA) (demandOf thirdA) (2 ∷ []) ≡ 80000
   pub loadsOfTwo : linkLoads thirdA (2 ∷ 4 ∷ []) ≡ 0 ∷ 20000 ∷ 0 ∷ 20000 ∷ 1000 ∷ []
   -- "range over open nodes only": in version 2 node 1 is planned, and taken first
-  pub planPasses : planVerdict thirdA (planMemory 65 3 6) ≡ passed
-  pub planScratchShort : planVerdict thirdA (planMemory 64 0 0) ≡ broken 13 0
-  pub planRowsShort : planVerdict thirdA (planMemory 65 3 5) ≡ broken 14 0
+  pub planPasses : planVerdict thirdA (planMemory 35 3 6) ≡ passed
+  pub planScratchShort : planVerdict thirdA (planMemory 34 0 0) ≡ broken 13 0
+  pub planRowsShort : planVerdict thirdA (planMemory 35 3 5) ≡ broken 14 0
   pub totalsOfPlan : planTotals thirdA ≡ 140000 ∷ 80000 ∷ 20000 ∷ []
   pub rowsOfPlan : planRows thirdA ≡ 0 ∷ 0 ∷ 2 ∷ 0 ∷ 2 ∷ 3 ∷ []
   pub totalsOfGreedy : greedyTotals thirdA ≡ 140000 ∷ 80000 ∷ 20000 ∷ []
   pub rowOfGreedy : greedyRow thirdA ≡ 2 ∷ 3 ∷ []
-  -- n and h count closed nodes too: 2 × (1 + 1) × (1 + 1) + 4 × 2
-  pub wordsOfThirdA : wordsAsked thirdA ≡ 65
-  pub wordsOfClosed : wordsAsked (lastByte 0x00) ≡ 16
+  -- closed nodes count in n and r too: 1 × (1 + 1) + 4 × 2
+  pub wordsOfThirdA : wordsAsked thirdA ≡ 35
+  pub wordsOfClosed : wordsAsked (lastByte 0x00) ≡ 10
   -- the only site closed, and open: a cache there would save 9,000
   pub totalsOfClosed : planTotals (lastByte 0x00) ≡ 21000 ∷ 21000 ∷ []
   pub greedyOfClosed : greedyTotals (lastByte 0x00) ≡ 21000 ∷ 21000 ∷ []

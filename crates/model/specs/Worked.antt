@@ -1,11 +1,11 @@
--- Document 01's worked cases that it does not mark *, and its numbers from elsewhere, with those of 02, items 2, 4 and 9: each on a
+-- Document 01's worked cases that it does not mark *, and its numbers from elsewhere, with those of 02, items 2, 3, 4 and 9: each on a
 -- file written out byte by byte (`Samples`), with the answer that the documents give. `VersionCases` has those of versions 2 and 3.
 use mathlib.Core.Path.{_≡_}
 use mathlib.Core.List.{List, [], _∷_, _++_, map}
 use Prim.Native.Nat.{ℕ}
 use lib.ListN.{length, take, drop, replicate}
 use Rattle.model.specs.File.{fieldTable, treeOf, demandOf}
-use Rattle.model.specs.Tree.{nodes}
+use Rattle.model.specs.Tree.{nodes, sites, nodesOfRow}
 use Rattle.model.specs.Rules.{Verdict, passed, broken, fileVerdict, scratchWords}
 use Rattle.model.specs.Bill.{totalLimit, cost, total}
 use Rattle.model.specs.Calls.{Answer, answered, refused, after, checkNumber, recordBytes, billVerdict, servingNodes, linkLoads, BillMemory, BillCall, first, second, ranking, winner, planTotals, planRows, PlanMemory, planVerdict, PlanCall, greedyTotals, greedyRow, GreedyMemory, greedyVerdict, GreedyCall}
@@ -129,6 +129,10 @@ pub record SituationCases : Type 0 where
 
 -- ---- the calls
 
+-- r(1), r(2), .. of a file's tree
+abbrev pub nodesOfRows : List ℕ → List ℕ
+nodesOfRows s = map (nodesOfRow (treeOf s)) (sites (treeOf s))
+
 pub record CallCases : Type 0 where
   -- 100,000,000 × 1,000 × 1,000; all of it is saved by a cache with hit 1,000
   pub largestTotal : total (treeOf largest) (demandOf largest) [] ≡ 100_000_000_000_000
@@ -182,31 +186,51 @@ pub record CallCases : Type 0 where
       ++ tenBytes 0x00 0x00 0x00 0x03 0x00 0x00 0x00 0x05 0x03 0xE8) ≡ 2 ∷ 1 ∷ []
   pub setOfRowOne : setOfRow 2 (0 ∷ 0 ∷ 1 ∷ 0 ∷ 2 ∷ 3 ∷ []) 1 ≡ 1 ∷ []
   pub setOfRowTwo : setOfRow 2 (0 ∷ 0 ∷ 1 ∷ 0 ∷ 2 ∷ 3 ∷ []) 2 ≡ 2 ∷ 3 ∷ []
-  -- "65 words pass, 64 give 13"; 9 nodes of height 8 with k 1: 9 × 9 × 2 + 4 × 9
-  pub scratchOfChain : scratchWords (header 0x00 0x09 0x00 0x01 ++ serverRecord ++ chained 8) ≡ 198
-  pub planPasses : planVerdict fileA (planMemory 65 3 6) ≡ passed
-  pub planScratchShort : planVerdict fileA (planMemory 64 0 0) ≡ broken 13 0
-  pub planTotalsShort : planVerdict fileA (planMemory 65 2 6) ≡ broken 14 0
-  pub planRowsShort : planVerdict fileA (planMemory 65 3 5) ≡ broken 14 0
+  -- 02, item 3: how many nodes are at or below each node and its later siblings
+  pub nodesOfRowsOfA : nodesOfRows fileA ≡ 4 ∷ 2 ∷ 1 ∷ 1 ∷ []
+  pub nodesOfRowsOfEachKind : nodesOfRows eachKind ≡ 7 ∷ 5 ∷ 4 ∷ 3 ∷ 2 ∷ 1 ∷ 1 ∷ []
+  -- nodes 1 and 3 below the server, 2 below 1, 4 below 3: what is below a later sibling counts, a cousin does not
+  pub nodesOfTwoFamilies : nodesOfRows (header 0x00 0x05 0x00 0x00
+      ++ tenBytes 0x00 0x00 0x00 0x00 0x00 0x00 0x00 0x00 0x00 0x00
+      ++ tenBytes 0x00 0x00 0x00 0x00 0x00 0x00 0x00 0x00 0x00 0x00
+      ++ tenBytes 0x00 0x01 0x00 0x00 0x00 0x00 0x00 0x00 0x00 0x00
+      ++ tenBytes 0x00 0x00 0x00 0x00 0x00 0x00 0x00 0x00 0x00 0x00
+      ++ tenBytes 0x00 0x03 0x00 0x00 0x00 0x00 0x00 0x00 0x00 0x00) ≡ 4 ∷ 1 ∷ 2 ∷ 1 ∷ []
+  -- tree A with another k: with k 0 each line has one entry, and from k 4 on no line grows
+  pub scratchOfNone : scratchWords (take 8 fileA ++ (0x00 ∷ drop 9 fileA)) ≡ 26
+  pub scratchOfThree : scratchWords (take 8 fileA ++ (0x03 ∷ drop 9 fileA)) ≡ 36
+  pub scratchOfFour : scratchWords (take 8 fileA ++ (0x04 ∷ drop 9 fileA)) ≡ 37
+  pub scratchOfMost : scratchWords (take 8 fileA ++ (0x20 ∷ drop 9 fileA)) ≡ 37
+  -- the server alone; siblings; 9 nodes, each below the one before it, with k 1: 2 × (1 + .. + 8) + 4 × 9, and with k 32:
+  -- 1 × 9 + 2 × 8 + .. + 8 × 2 + 4 × 9
+  pub scratchOfServer : scratchWords (oneNode serverRecord) ≡ 4
+  pub scratchOfSiblings : scratchWords (header 0x00 0x04 0x00 0x03 ++ replicate 40 0x00) ≡ 25
+  pub scratchOfChain : scratchWords (header 0x00 0x09 0x00 0x01 ++ serverRecord ++ chained 8) ≡ 108
+  pub scratchOfDeepChain : scratchWords (header 0x00 0x09 0x00 0x20 ++ serverRecord ++ chained 8) ≡ 192
+  -- "For tree A 35 words now pass and 34 give 13": depths 1, 2, 2 and 1, k 2, so 1 × 3 + 2 × 3 + 2 × 2 + 1 × 2 + 4 × 5
+  pub planPasses : planVerdict fileA (planMemory 35 3 6) ≡ passed
+  pub planScratchShort : planVerdict fileA (planMemory 34 0 0) ≡ broken 13 0
+  pub planTotalsShort : planVerdict fileA (planMemory 35 2 6) ≡ broken 14 0
+  pub planRowsShort : planVerdict fileA (planMemory 35 3 5) ≡ broken 14 0
   pub planFileFirst : planVerdict tooLong (planMemory 0 0 0) ≡ broken 9 1
-  pub greedyPasses : greedyVerdict fileA (greedyMemory 65 3 2) ≡ passed
-  pub greedyScratchShort : greedyVerdict fileA (greedyMemory 64 0 0) ≡ broken 13 0
-  pub greedyTotalsShort : greedyVerdict fileA (greedyMemory 65 2 2) ≡ broken 14 0
-  pub greedyNodesShort : greedyVerdict fileA (greedyMemory 65 3 1) ≡ broken 14 0
+  pub greedyPasses : greedyVerdict fileA (greedyMemory 35 3 2) ≡ passed
+  pub greedyScratchShort : greedyVerdict fileA (greedyMemory 34 0 0) ≡ broken 13 0
+  pub greedyTotalsShort : greedyVerdict fileA (greedyMemory 35 2 2) ≡ broken 14 0
+  pub greedyNodesShort : greedyVerdict fileA (greedyMemory 35 3 1) ≡ broken 14 0
   pub greedyFileFirst : greedyVerdict tooLong (greedyMemory 0 0 0) ≡ broken 9 1
-  pub reportPasses : reportVerdict fileA (reportMemory 65 3 6 3 2) ≡ passed
-  pub reportScratchShort : reportVerdict fileA (reportMemory 64 0 0 0 0) ≡ broken 13 0
-  pub reportTotalsShort : reportVerdict fileA (reportMemory 65 2 6 3 2) ≡ broken 14 0
-  pub reportGreedyTotalsShort : reportVerdict fileA (reportMemory 65 3 6 2 2) ≡ broken 14 0
-  pub reportPlanShort : reportVerdict fileA (reportMemory 65 3 5 3 2) ≡ broken 14 0
-  pub reportGreedyShort : reportVerdict fileA (reportMemory 65 3 6 3 1) ≡ broken 14 0
+  pub reportPasses : reportVerdict fileA (reportMemory 35 3 6 3 2) ≡ passed
+  pub reportScratchShort : reportVerdict fileA (reportMemory 34 0 0 0 0) ≡ broken 13 0
+  pub reportTotalsShort : reportVerdict fileA (reportMemory 35 2 6 3 2) ≡ broken 14 0
+  pub reportGreedyTotalsShort : reportVerdict fileA (reportMemory 35 3 6 2 2) ≡ broken 14 0
+  pub reportPlanShort : reportVerdict fileA (reportMemory 35 3 5 3 2) ≡ broken 14 0
+  pub reportGreedyShort : reportVerdict fileA (reportMemory 35 3 6 3 1) ≡ broken 14 0
   pub reportFileFirst : reportVerdict tooLong (reportMemory 0 0 0 0 0) ≡ broken 9 1
   -- "A C host passes a file's bytes and gets 0 or the number"; a code is record × 256 + number
   pub checkOfAccepted : checkNumber fileA ≡ 0
   pub checkOfRefused : checkNumber tooLong ≡ 9
   pub codeOfNone : codeOf (fileVerdict fileA) ≡ 0
   pub codeOfNine : codeOf (fileVerdict tooLong) ≡ 265
-  pub wordsOfA : wordsAsked fileA ≡ 65
+  pub wordsOfA : wordsAsked fileA ≡ 35
   pub wordsOfRefused : wordsAsked tooLong ≡ 0
   -- a host's bill: the buffer of the total has one entry
   pub hostBillPasses : hostBillVerdict fileA (1 ∷ []) (hostBillMemory 1 5 5) ≡ passed
@@ -228,19 +252,19 @@ pub record StatementCases : Type 0 where
   pub hostBillOfSecond : {v : Verdict} {memory′ : HostBillMemory} → HostBillCall threeSevenths (1 ∷ []) (hostBillMemory 2 3 3) v memory′
       → (v ≡ passed)
       × (memory′ .totals ≡ 12000 ∷ 7 ∷ []) × (memory′ .servings ≡ 0 ∷ 1 ∷ 7 ∷ []) × (memory′ .loads ≡ 0 ∷ 4000 ∷ 7 ∷ [])
-  pub planOfSecond : {v : Verdict} {memory′ : PlanMemory} → PlanCall threeSevenths (planMemory 17 3 3) v memory′
+  pub planOfSecond : {v : Verdict} {memory′ : PlanMemory} → PlanCall threeSevenths (planMemory 11 3 3) v memory′
       → (v ≡ passed)
-      × (length (memory′ .scratch) ≡ 17) × (drop 16 (memory′ .scratch) ≡ 7 ∷ [])
+      × (length (memory′ .scratch) ≡ 11) × (drop 10 (memory′ .scratch) ≡ 7 ∷ [])
       × (memory′ .totals ≡ 21000 ∷ 12000 ∷ 7 ∷ [])
       × (memory′ .rows ≡ 0 ∷ 1 ∷ 7 ∷ [])
-  pub greedyOfSecond : {v : Verdict} {memory′ : GreedyMemory} → GreedyCall threeSevenths (greedyMemory 17 3 2) v memory′
+  pub greedyOfSecond : {v : Verdict} {memory′ : GreedyMemory} → GreedyCall threeSevenths (greedyMemory 11 3 2) v memory′
       → (v ≡ passed)
-      × (length (memory′ .scratch) ≡ 17) × (drop 16 (memory′ .scratch) ≡ 7 ∷ [])
+      × (length (memory′ .scratch) ≡ 11) × (drop 10 (memory′ .scratch) ≡ 7 ∷ [])
       × (memory′ .totals ≡ 21000 ∷ 12000 ∷ 7 ∷ [])
       × (memory′ .nodes ≡ 1 ∷ 7 ∷ [])
-  pub reportOfSecond : {v : Verdict} {memory′ : ReportMemory} → ReportCall threeSevenths (reportMemory 17 3 3 3 2) v memory′
+  pub reportOfSecond : {v : Verdict} {memory′ : ReportMemory} → ReportCall threeSevenths (reportMemory 11 3 3 3 2) v memory′
       → (v ≡ passed)
-      × (length (memory′ .scratch) ≡ 17) × (drop 16 (memory′ .scratch) ≡ 7 ∷ [])
+      × (length (memory′ .scratch) ≡ 11) × (drop 10 (memory′ .scratch) ≡ 7 ∷ [])
       × (memory′ .planTotals ≡ 21000 ∷ 12000 ∷ 7 ∷ [])
       × (memory′ .planRows ≡ 0 ∷ 1 ∷ 7 ∷ [])
       × (memory′ .greedyTotals ≡ 21000 ∷ 12000 ∷ 7 ∷ [])
@@ -252,19 +276,19 @@ pub record StatementCases : Type 0 where
   pub hostBillOfClosed : {v : Verdict} {memory memory′ : HostBillMemory} → HostBillCall thirdA (1 ∷ 2 ∷ []) memory v memory′
       → (v ≡ broken 12 0)
       × (memory′ .totals ≡ memory .totals) × (memory′ .servings ≡ memory .servings) × (memory′ .loads ≡ memory .loads)
-  pub planOfThird : {v : Verdict} {memory′ : PlanMemory} → PlanCall thirdA (planMemory 66 4 7) v memory′
+  pub planOfThird : {v : Verdict} {memory′ : PlanMemory} → PlanCall thirdA (planMemory 36 4 7) v memory′
       → (v ≡ passed)
-      × (length (memory′ .scratch) ≡ 66) × (drop 65 (memory′ .scratch) ≡ 7 ∷ [])
+      × (length (memory′ .scratch) ≡ 36) × (drop 35 (memory′ .scratch) ≡ 7 ∷ [])
       × (memory′ .totals ≡ 140000 ∷ 80000 ∷ 20000 ∷ 7 ∷ [])
       × (memory′ .rows ≡ 0 ∷ 0 ∷ 2 ∷ 0 ∷ 2 ∷ 3 ∷ 7 ∷ [])
-  pub greedyOfThird : {v : Verdict} {memory′ : GreedyMemory} → GreedyCall thirdA (greedyMemory 66 4 3) v memory′
+  pub greedyOfThird : {v : Verdict} {memory′ : GreedyMemory} → GreedyCall thirdA (greedyMemory 36 4 3) v memory′
       → (v ≡ passed)
-      × (length (memory′ .scratch) ≡ 66) × (drop 65 (memory′ .scratch) ≡ 7 ∷ [])
+      × (length (memory′ .scratch) ≡ 36) × (drop 35 (memory′ .scratch) ≡ 7 ∷ [])
       × (memory′ .totals ≡ 140000 ∷ 80000 ∷ 20000 ∷ 7 ∷ [])
       × (memory′ .nodes ≡ 2 ∷ 3 ∷ 7 ∷ [])
-  pub reportOfThird : {v : Verdict} {memory′ : ReportMemory} → ReportCall thirdA (reportMemory 66 4 7 4 3) v memory′
+  pub reportOfThird : {v : Verdict} {memory′ : ReportMemory} → ReportCall thirdA (reportMemory 36 4 7 4 3) v memory′
       → (v ≡ passed)
-      × (length (memory′ .scratch) ≡ 66) × (drop 65 (memory′ .scratch) ≡ 7 ∷ [])
+      × (length (memory′ .scratch) ≡ 36) × (drop 35 (memory′ .scratch) ≡ 7 ∷ [])
       × (memory′ .planTotals ≡ 140000 ∷ 80000 ∷ 20000 ∷ 7 ∷ [])
       × (memory′ .planRows ≡ 0 ∷ 0 ∷ 2 ∷ 0 ∷ 2 ∷ 3 ∷ 7 ∷ [])
       × (memory′ .greedyTotals ≡ 140000 ∷ 80000 ∷ 20000 ∷ 7 ∷ [])
@@ -280,17 +304,17 @@ pub record StatementCases : Type 0 where
   pub hostBillRefused : {v : Verdict} {memory memory′ : HostBillMemory} → HostBillCall tooLong [] memory v memory′
       → (v ≡ broken 9 1)
       × (memory′ .totals ≡ memory .totals) × (memory′ .servings ≡ memory .servings) × (memory′ .loads ≡ memory .loads)
-  pub planSettled : {v : Verdict} {memory′ : PlanMemory} → PlanCall fileA (planMemory 66 4 7) v memory′
+  pub planSettled : {v : Verdict} {memory′ : PlanMemory} → PlanCall fileA (planMemory 36 4 7) v memory′
       → (v ≡ passed)
-      × (length (memory′ .scratch) ≡ 66) × (drop 65 (memory′ .scratch) ≡ 7 ∷ [])
+      × (length (memory′ .scratch) ≡ 36) × (drop 35 (memory′ .scratch) ≡ 7 ∷ [])
       × (memory′ .totals ≡ 140000 ∷ 60000 ∷ 20000 ∷ 7 ∷ [])
       × (memory′ .rows ≡ 0 ∷ 0 ∷ 1 ∷ 0 ∷ 2 ∷ 3 ∷ 7 ∷ [])
   pub planRefused : {v : Verdict} {memory memory′ : PlanMemory} → PlanCall tooLong memory v memory′
       → (v ≡ broken 9 1)
       × (memory′ .scratch ≡ memory .scratch) × (memory′ .totals ≡ memory .totals) × (memory′ .rows ≡ memory .rows)
-  pub greedySettled : {v : Verdict} {memory′ : GreedyMemory} → GreedyCall fileA (greedyMemory 66 4 3) v memory′
+  pub greedySettled : {v : Verdict} {memory′ : GreedyMemory} → GreedyCall fileA (greedyMemory 36 4 3) v memory′
       → (v ≡ passed)
-      × (length (memory′ .scratch) ≡ 66) × (drop 65 (memory′ .scratch) ≡ 7 ∷ [])
+      × (length (memory′ .scratch) ≡ 36) × (drop 35 (memory′ .scratch) ≡ 7 ∷ [])
       × (memory′ .totals ≡ 140000 ∷ 60000 ∷ 40000 ∷ 7 ∷ [])
       × (memory′ .nodes ≡ 1 ∷ 2 ∷ 7 ∷ [])
   pub greedyRefused : {v : Verdict} {memory memory′ : GreedyMemory} → GreedyCall tooLong memory v memory′
@@ -301,9 +325,9 @@ pub record StatementCases : Type 0 where
       × (memory′ .scratch ≡ memory .scratch)
       × (memory′ .planTotals ≡ memory .planTotals) × (memory′ .planRows ≡ memory .planRows)
       × (memory′ .greedyTotals ≡ memory .greedyTotals) × (memory′ .greedyNodes ≡ memory .greedyNodes)
-  pub reportSettled : {v : Verdict} {memory′ : ReportMemory} → ReportCall fileA (reportMemory 66 4 7 4 3) v memory′
+  pub reportSettled : {v : Verdict} {memory′ : ReportMemory} → ReportCall fileA (reportMemory 36 4 7 4 3) v memory′
       → (v ≡ passed)
-      × (length (memory′ .scratch) ≡ 66) × (drop 65 (memory′ .scratch) ≡ 7 ∷ [])
+      × (length (memory′ .scratch) ≡ 36) × (drop 35 (memory′ .scratch) ≡ 7 ∷ [])
       × (memory′ .planTotals ≡ 140000 ∷ 60000 ∷ 20000 ∷ 7 ∷ [])
       × (memory′ .planRows ≡ 0 ∷ 0 ∷ 1 ∷ 0 ∷ 2 ∷ 3 ∷ 7 ∷ [])
       × (memory′ .greedyTotals ≡ 140000 ∷ 60000 ∷ 40000 ∷ 7 ∷ [])

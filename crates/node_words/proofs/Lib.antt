@@ -2,4 +2,3 @@ pub mod Ancestors
 pub mod Words
 mod Measures
 mod Links
-mod RowNodes

@@ -3,9 +3,8 @@ ghost use mathlib.Core.Path.{_≡_};
 ghost use Prim.Native.Nat.{_+_, _*_, _-_, _≤_, _<_, _^_};
 ghost use lib.ListN.{length, set};
 ghost use Rattle.laws.specs.Fronts.{FrontOnly};
-ghost use Rattle.model.specs.File.{mostNodes, recordLength, treeOf};
+ghost use Rattle.model.specs.File.{recordLength, treeOf};
 ghost use Rattle.node_words.specs.Words.{nodeWords, wordAt, distanceWord, depthWord, childWord, siblingWord, wordOf, HasNode, NodeRoom, SiteRoom, NodeWords, withPair, Measured, Unlinked, Linked, LinksOnly};
-ghost use Rattle.node_words.specs.RowNodes.{SomeFileWords, RowNodesBy};
 
 // How many words the scratch holds of each node, and which is which: its distance to the server, its depth, its first child and
 // its next sibling.
@@ -165,21 +164,4 @@ pub fn note_nodes(file: &[u8], n: usize, words: &mut [u64])
 {
     measure(file, n, words);
     link(file, n, words);
-}
-
-// Writes into entry v how many nodes the row that begins with v has (v, its later siblings, and all below them). Node 0 begins no
-// row: 0.
-pub fn row_nodes(words: &[u64], n: usize, counts: &mut [usize])
-    requires { ⌜ SomeFileWords n (now words) ⌝ }
-    requires { ⌜ mostNodes ≤ length (now counts) ⌝ }
-    ensures { λ _. ⌜ RowNodesBy n (now (words .entry)) (now (counts .exit)) ⌝ }
-{
-    counts[0] = 0;
-    let mut v = n;
-    while 1 < v {
-        v -= 1;
-        let below = counts[child_of(words, v)];
-        let after = counts[sibling_of(words, v)];
-        counts[v] = 1 + below + after;
-    }
 }

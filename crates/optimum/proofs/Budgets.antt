@@ -1,26 +1,22 @@
 -- From the line of the server's row to the plan: how many caches each budget has, its total and its row.
 use mathlib.Core.Path.{_≡_, refl, sym, ap, _∙_}
 use mathlib.Core.Bool.{Bool, true, false}
-use mathlib.Core.List.{List, map}
-use mathlib.Core.Logic.{inl, inr, ⊎-elim}
+use mathlib.Core.List.{List}
+use mathlib.Core.Logic.{⊎-elim}
 use Prim.Native.Nat.{ℕ, zero, suc, _+_, _*_, _-_, _≤_, _<_}
 use native.Mathlib.Omega.{arith}
 use lib.Dec.{ltb}
-use lib.ListN.{length, getD, set, replicate}
+use lib.ListN.{length, set, replicate}
 use lib.Seq.{sets}
-use Rattle.laws.specs.Lists.{range}
 use Rattle.laws.proofs.Numbers.{row-before}
-use Rattle.laws.proofs.Lists.{length-of-range}
 use Rattle.laws.proofs.Stores.{sets-append, loop-begins, loop-turns}
 use Rattle.laws.proofs.Rows.{rows-begin, rows-turn}
-use Rattle.laws.proofs.FrontValues.{entry-of-range-alone}
 use Rattle.model.specs.File.{Tree, Demand, treeOf, demandOf, budgetOf}
 use Rattle.model.specs.Plan.{plan, planTotal, row}
 use Rattle.model.specs.Calls.{planTotals, planRows}
 use Rattle.model.specs.Accepted.{Sound}
 use Rattle.model.proofs.Bounds.{total-bound}
 use Rattle.model.proofs.Written.{length-plan-row}
-use Rattle.fields.specs.declared.Tree as code
 use Rattle.best_rows.specs.Least.{better, firstLeast}
 use Rattle.best_rows.specs.Best.{cap}
 use Rattle.best_rows.specs.Guarded.{mayBe}
@@ -30,22 +26,23 @@ use Rattle.best_rows.proofs.Least.{better-cases, first-least-within}
 use Rattle.best_rows.proofs.Optimum.{optimum-found}
 use Rattle.best_rows.proofs.Table.{length-best-nodes}
 use Rattle.node_words.specs.Words.{wordOf, childWord}
-use Rattle.node_words.proofs.Ancestors.{ancestor-server}
-use Rattle.table.specs.Table.{width, tableEnd, InTable, lineIn, HasLine, FilledFrom, Table}
-use Rattle.table.proofs.Lines.{line-under}
-use Rattle.table.proofs.Room.{room-count, room-long, room-place}
+use Rattle.best_rows.proofs.TreeRows.{first-child-stands}
+use Rattle.node_words.proofs.Ancestors.{child-depth, ancestor-server}
+use Rattle.lines.specs.Line.{entryOf, HoldsBest}
+use Rattle.table.specs.Table.{InTable, lineIn, Table}
+use Rattle.table.proofs.Room.{room-place}
+use Rattle.table.proofs.Reading.{row-line}
 use Rattle.optimum.specs.Walk.{RowServed, RowToWalk}
 use Rattle.optimum.specs.Budgets.{planRow, Budget, Buffers, Planned}
 use Rattle.optimum.proofs.Served.{children-served}
-use Rattle.optimum.proofs.Walk.{table-sound, table-budget, table-child}
+use Rattle.optimum.proofs.Walk.{table-sound, table-child}
 
 -- ---- how many caches a budget has
 
 -- the better of two counts by the entries of a line is the better by the function that the line holds
-better-by-line : (f : ℕ → ℕ) (w : ℕ) {l : List ℕ} (x y : ℕ) → l ≡ map f (range 0 w) → x < w → y < w
-    → better (λ n. getD l n 0) x y ≡ better f x y
+better-by-line : (f : ℕ → ℕ) (w : ℕ) {l : List ℕ} (x y : ℕ) → HoldsBest w f l → x < w → y < w → better (entryOf l) x y ≡ better f x y
 unfolding better
-better-by-line f w x y e h k = rw (e, entry-of-range-alone f w x h, entry-of-range-alone f w y k)
+better-by-line f w x y e h k = rw (e .is x h, e .is y k)
 
 -- as a test in code finds it
 pub better-first : (f : ℕ → ℕ) (x y : ℕ) {r : Bool} → r ≡ ltb (f y) (f x) → r ≡ false → x ≡ better f x y
@@ -72,7 +69,7 @@ module _ (t : Tree) (d : Demand) (allows : ℕ → Bool → Bool) where
 
 -- ---- one budget
 
-module _ {file : List ℕ} {sizes : code.Tree} {s : List ℕ} {b last : ℕ} (r : Budget file sizes s b last) where
+module _ {file : List ℕ} {k : ℕ} {starts widths s : List ℕ} {b last : ℕ} (r : Budget file k starts widths s b last) where
   -- that many caches of the server's row are the plan, and cost its total
   found : (bestNodes (treeOf file) (demandOf file) (mayBe (treeOf file)) (firstChild (treeOf file) 0) 0 (leastCount (treeOf file) (demandOf file) (mayBe (treeOf file)) b) ≡ plan (treeOf file) (demandOf file) b)
       × (bestAt (treeOf file) (demandOf file) (mayBe (treeOf file)) (firstChild (treeOf file) 0) 0 (leastCount (treeOf file) (demandOf file) (mayBe (treeOf file)) b) ≡ planTotal (treeOf file) (demandOf file) b)
@@ -86,72 +83,58 @@ module _ {file : List ℕ} {sizes : code.Tree} {s : List ℕ} {b last : ℕ} (r 
   served : RowServed (treeOf file) (firstChild (treeOf file) 0) 0
   served = children-served (treeOf file) (ok .preorder) 0 (ok .some)
 
-  pub line-place : {child : ℕ} → child ≡ wordOf s 0 childWord → InTable sizes child 0 × (tableEnd sizes ≤ length s)
+  -- it is there, and where the server has children they are one link below it
+  pub line-place : {child : ℕ} → child ≡ wordOf s 0 childWord → InTable starts widths s child 0
   line-place e =
-      let room = r .table .stored .room in
-      rw (table-child (r .table) (ok .some) e) (room-place room (rw (room-count room) (served .node)) (omega arith), room-long room)
+      let t = treeOf file in
+      rw (table-child (r .table) (ok .some) e)
+      (room-place (r .table .stored .room) (firstChild t 0) 0 (served .node) (λ some. ⊎-elim (λ z. absurd (omega arith)) (λ w. omega (arith, w .0)) (served .way)))
 
   abbrev serverBest : ℕ → ℕ
   serverBest = bestAt (treeOf file) (demandOf file) (mayBe (treeOf file)) (firstChild (treeOf file) 0) 0
 
-  module _ {child : ℕ} {l : List ℕ} (e : child ≡ wordOf s 0 childWord) (f : l ≡ lineIn sizes s child 0) where
+  module _ {child : ℕ} {l : List ℕ} (e : child ≡ wordOf s 0 childWord) (f : l ≡ lineIn starts widths s child 0) where
     -- holds the least of that row for each count
-    server-line : l ≡ map serverBest (range 0 (width sizes))
-    unfolding FilledFrom
+    server-line : HoldsBest (budgetOf file + 1) serverBest l
     server-line =
         let t = treeOf file in
         let first = firstChild t 0 in
-        let node : first < sizes .nodes = rw (room-count (r .table .stored .room)) (served .node) in
-        let has : HasLine t first 0 = ⊎-elim (λ z. inl z) (λ w. inr (omega (arith, w .0))) (served .way) in
-        rw (table-child (r .table) (ok .some) e) at f
-        ∙ r .table .lines first 0 node (omega arith) has (inr (omega arith))
-        ∙ line-under t (demandOf file) (mayBe (treeOf file)) (width sizes) first 0 0 (inr (ancestor-server t (ok .preorder) first))
+        rw (rw (table-child (r .table) (ok .some) e) at f)
+        (row-line (r .table) 0 0 first 0 0 (omega arith) (first-child-stands t 0)
+        (λ some p. (omega (arith, child-depth t (ok .preorder) first 0 some p), ancestor-server t (ok .preorder) first)))
 
-    wide : b < width sizes
-    wide = omega (arith, table-budget (r .table), r .within)
+    wide : b < budgetOf file + 1
+    wide = omega (arith, r .within)
 
     last-within : last ≤ b
     last-within = omega (arith, r .counted, least-count-within (treeOf file) (demandOf file) (mayBe (treeOf file)) (b - 1))
 
-    -- it has entries for both counts
-    pub counts-there : (last < length l) × (b < length l)
-    counts-there =
-        let long : length l ≡ width sizes = ap length server-line ∙ length-of-range serverBest 0 (width sizes) in
-        (omega (arith, wide, last-within), omega (arith, wide))
-
-    module _ {count : ℕ} (c : count ≡ better (λ n. getD l n 0) last b) where
+    module _ {count : ℕ} (c : count ≡ better (entryOf l) last b) where
       -- the better of them by it is the count of budget b
       pub count-found : count ≡ leastCount (treeOf file) (demandOf file) (mayBe (treeOf file)) b
       count-found =
           c
-          ∙ better-by-line serverBest (width sizes) last b server-line (omega (arith, wide, last-within)) wide
+          ∙ better-by-line serverBest (budgetOf file + 1) last b server-line (omega (arith, wide, last-within)) wide
           ∙ rw (r .counted) (least-count-next (treeOf file) (demandOf file) (mayBe (treeOf file)) b)
 
       count-within : count ≤ b
       count-within = rw count-found (least-count-within (treeOf file) (demandOf file) (mayBe (treeOf file)) b)
 
-      pub count-there : count < length l
-      count-there = omega (arith, count-within, counts-there .1)
-
       -- and its entry there the plan's total
-      pub total-found : getD l count 0 ≡ planTotal (treeOf file) (demandOf file) b
-      total-found =
-          ap (λ k. getD k count 0) server-line
-          ∙ entry-of-range-alone serverBest (width sizes) count (omega (arith, count-within, wide))
-          ∙ ap serverBest count-found ∙ found .1
+      pub total-found : entryOf l count ≡ planTotal (treeOf file) (demandOf file) b
+      total-found = server-line .is count (omega (arith, count-within, wide)) ∙ ap serverBest count-found ∙ found .1
 
       -- ---- its row
 
       -- the server's row can have that many caches, and there is room for the row of the answer
       pub budget-row : {totals rows : List ℕ} → Buffers file totals rows
-          → RowToWalk file (mayBe (treeOf file)) sizes s (firstChild (treeOf file) 0) 0 count (b * sizes .budget) rows × (b * sizes .budget + sizes .budget ≤ length rows)
+          → RowToWalk file (mayBe (treeOf file)) starts widths s (firstChild (treeOf file) 0) 0 count (b * k) rows × (b * k + k ≤ length rows)
       unfolding cap
       budget-row {rows = rows} long =
           let t = treeOf file in
           let d = demandOf file in
-          let k : sizes .budget ≡ budgetOf file = table-budget (r .table) in
           let last-row = row-before {i = b} {j = budgetOf file + 1} (budgetOf file) (omega (arith, r .within)) in
-          let end : b * sizes .budget + sizes .budget ≤ length rows = rw k (omega (arith, last-row, long .rowsLong)) in (
+          let end : b * k + k ≤ length rows = rw (r .budget) (omega (arith, last-row, long .rowsLong)) in (
             record {
               table = r .table;
               row = record {
@@ -159,30 +142,30 @@ module _ {file : List ℕ} {sizes : code.Tree} {s : List ℕ} {b last : ℕ} (r 
                 within = omega (arith, count-within, r .within);
                 attained = rw count-found (omega (arith, found .1, total-bound t d ok (plan t d b)));
               };
-              room = omega (arith, count-within, r .within, end);
+              room = omega (arith, count-within, r .within, r .budget, end);
             },
             end,
           )
 
       -- what is written there is the plan's row
       pub row-found : (rows : List ℕ) (at : ℕ) {l : List ℕ}
-          → l ≡ sets rows at (row (sizes .budget) (bestNodes (treeOf file) (demandOf file) (mayBe (treeOf file)) (firstChild (treeOf file) 0) 0 count))
+          → l ≡ sets rows at (row k (bestNodes (treeOf file) (demandOf file) (mayBe (treeOf file)) (firstChild (treeOf file) 0) 0 count))
           → l ≡ sets rows at (planRow file b)
-      row-found rows at e = rw (table-budget (r .table), count-found, found .0) at e
+      row-found rows at e = rw (r .budget, count-found, found .0) at e
 
 -- ---- a row of the answer
 
-module _ {file : List ℕ} {allows : ℕ → Bool → Bool} {sizes : code.Tree} {s : List ℕ} {m at : ℕ} {rows : List ℕ}
-    (w : RowToWalk file allows sizes s (firstChild (treeOf file) 0) 0 m at rows) where
+module _ {file : List ℕ} {allows : ℕ → Bool → Bool} {starts widths s : List ℕ} {m at : ℕ} {rows : List ℕ}
+    (w : RowToWalk file allows starts widths s (firstChild (treeOf file) 0) 0 m at rows) where
   first-is : {child : ℕ} → child ≡ wordOf s 0 childWord → child ≡ firstChild (treeOf file) 0
   first-is e = table-child (w .table) (table-sound (w .table) .some) e
 
-  pub row-first : {child : ℕ} → child ≡ wordOf s 0 childWord → RowToWalk file allows sizes s child 0 m at rows
+  pub row-first : {child : ℕ} → child ≡ wordOf s 0 childWord → RowToWalk file allows starts widths s child 0 m at rows
   row-first e = rw (first-is e) w
 
   -- the caches end within the row
-  pub row-ends-within : {end : ℕ} → end ≡ at + m → end ≤ at + sizes .budget
-  row-ends-within e = omega (arith, table-budget (w .table), w .row .within)
+  pub row-ends-within : {end k : ℕ} → k ≡ budgetOf file → end ≡ at + m → end ≤ at + k
+  row-ends-within f e = omega (arith, w .row .within)
 
   -- after them come zeros
   pub row-then-zeros : {child end : ℕ} {l r : List ℕ} (k : ℕ) → child ≡ wordOf s 0 childWord → end ≡ at + m
@@ -209,20 +192,20 @@ module _ {file totals rows : List ℕ} where
   }
 
   module _ {b last : ℕ} {totals′ rows′ : List ℕ} (p : Planned file totals rows b last totals′ rows′) where
-    pub plan-budget : {sizes : code.Tree} {s : List ℕ} → Table file (mayBe (treeOf file)) sizes s → b ≤ sizes .budget → Budget file sizes s b last
-    plan-budget t h = record { table = t; within = rw (table-budget t) at h; counted = p .counted }
+    pub plan-budget : {k : ℕ} {starts widths s : List ℕ} → k ≡ budgetOf file → Table file (mayBe (treeOf file)) starts widths s → b ≤ k
+        → Budget file k starts widths s b last
+    plan-budget e t h = record { budget = e; table = t; within = omega arith; counted = p .counted }
 
     pub plan-buffers : Buffers file totals rows → Buffers file totals′ rows′
     plan-buffers long = record { totalsLong = rw (p .totalsLong) (long .totalsLong); rowsLong = rw (p .rowsLong) (long .rowsLong) }
 
     -- budget b written
-    pub plan-turns : {sizes : code.Tree} {s : List ℕ} {count : ℕ} {t r : List ℕ} → Table file (mayBe (treeOf file)) sizes s → b ≤ sizes .budget
+    pub plan-turns : {k count : ℕ} {t r : List ℕ} → k ≡ budgetOf file → b ≤ k
         → count ≡ leastCount (treeOf file) (demandOf file) (mayBe (treeOf file)) b
-        → t ≡ set totals′ b (planTotal (treeOf file) (demandOf file) b) → r ≡ sets rows′ (b * sizes .budget) (planRow file b)
+        → t ≡ set totals′ b (planTotal (treeOf file) (demandOf file) b) → r ≡ sets rows′ (b * k) (planRow file b)
         → length t ≡ length totals′ → length r ≡ length rows′
         → Planned file totals rows (b + 1) count t r
-    plan-turns {sizes} {s} {count} {t} {r} table h c e f u v =
-        let k : sizes .budget ≡ budgetOf file = table-budget table in
+    plan-turns k h c e f u v =
         let before : b + 1 - 1 ≡ b = omega arith in
         record {
           within = omega arith;
@@ -234,10 +217,9 @@ module _ {file totals rows : List ℕ} where
         }
 
     -- after the last budget the plan is written
-    pub plan-ends : {sizes : code.Tree} {s : List ℕ} → Table file (mayBe (treeOf file)) sizes s → sizes .budget < b
+    pub plan-ends : {k : ℕ} → k ≡ budgetOf file → k < b
         → (totals′ ≡ sets totals 0 (planTotals file)) × (rows′ ≡ sets rows 0 (planRows file))
     unfolding planTotals planRows
-    plan-ends {sizes} table h =
-        let k : sizes .budget ≡ budgetOf file = table-budget table in
+    plan-ends k h =
         let all : b ≡ suc (budgetOf file) = omega (arith, p .within) in
         (rw all at (p .totalsAfter), rw all at (p .rowsAfter))

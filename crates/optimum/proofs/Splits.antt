@@ -1,26 +1,29 @@
--- How a row's caches split, as it is read from the lines of the first node's children and later siblings.
+-- How a row's caches split, as it is read from the lines of the first node's children and later siblings, and the row's own.
 use mathlib.Core.Path.{_≡_, refl, sym, _∙_}
 use mathlib.Core.Bool.{Bool, true, false}
 use mathlib.Core.List.{List}
 use Prim.Native.Nat.{ℕ, _+_, _-_, _≤_, _<_}
 use native.Mathlib.Omega.{arith}
-use Rattle.model.specs.File.{treeOf, demandOf}
-use Rattle.fields.specs.declared.Tree as code
-use Rattle.best_rows.specs.BestAt.{payAt, childrenAt, siblingsAt, takesNode, nodeBestAt, laterAt}
-use Rattle.best_rows.proofs.Cover.{next-sibling-is}
-use Rattle.best_rows.proofs.Table.{node-best-over, best-at-node}
-use Rattle.node_words.specs.Words.{wordOf, depthWord, siblingWord}
-use Rattle.lines.specs.Line.{LineParts, NodeParts, SplitBound, lineTakes, lineLater, LinesHoldBest}
-use Rattle.lines.proofs.Fewer.{line-parts-fewer, parts-fewer}
-use Rattle.lines.proofs.HeldBest.{held-node, held-best, held-later, held-takes}
-use Rattle.table.specs.Table.{width, Served}
+use Rattle.model.specs.File.{treeOf, demandOf, budgetOf}
+use Rattle.best_rows.specs.Best.{cap}
+use Rattle.best_rows.specs.BestAt.{one, payAt, childrenAt, siblingsAt, bestAt, takesNode, nodeBestAt, laterAt}
+use Rattle.best_rows.proofs.Table.{node-best-attained, best-at-node}
+use Rattle.node_words.specs.Words.{wordOf, depthWord}
+use Rattle.lines.specs.Line.{LineParts, entryOf, lineTakes, lineLater, lineBest, LinesHoldBest}
+use Rattle.lines.proofs.HeldBest.{held-best, held-later, held-takes}
+use Rattle.table.specs.Table.{lineIn, Served}
 use Rattle.table.proofs.Lines.{parts-read}
-use Rattle.optimum.specs.Walk.{MostBelow, RowToSplit}
+use Rattle.table.proofs.Reading.{own-row}
+use Rattle.optimum.specs.Walk.{RowToSplit}
 use Rattle.optimum.proofs.Served.{served-from-above}
-use Rattle.optimum.proofs.Nodes.{later-within}
-use Rattle.optimum.proofs.Walk.{table-sound, table-budget}
+use Rattle.optimum.proofs.Nodes.{later-within, row-attained}
+use Rattle.optimum.proofs.Walk.{table-sound}
 
-module _ {file : List ℕ} {allows : ℕ → Bool → Bool} {sizes : code.Tree} {s : List ℕ} {x serving m : ℕ} (r : RowToSplit file allows sizes s x serving m) where
+none-taken : (x : ℕ) (u : Bool) → one x u ≤ 0 → false ≡ u
+none-taken x true h = absurd (omega arith)
+none-taken x false h = refl
+
+module _ {file : List ℕ} {allows : ℕ → Bool → Bool} {starts widths s : List ℕ} {x serving m : ℕ} (r : RowToSplit file allows starts widths s x serving m) where
   -- at its serving node's depth, as it is read
   pub split-served : {above : ℕ} → above ≡ wordOf s serving depthWord → Served (treeOf file) x above serving
   split-served e =
@@ -29,38 +32,29 @@ module _ {file : List ℕ} {allows : ℕ → Bool → Bool} {sizes : code.Tree} 
       rw (e ∙ r .table .stored .words .depth serving (r .row .served .above))
       (record { site = r .site; node = r .row .served .node; above = way .0; ancestor = sym (way .1) })
 
-  split-within : m < width sizes
-  split-within = omega (arith, table-budget (r .table), r .row .within)
+  split-within : m < budgetOf file + 1
+  split-within = omega (arith, r .row .within)
 
   module _ {above member other : ℕ} {cached uncached rest : List ℕ} (at : Served (treeOf file) x above serving)
-      (held : LinesHoldBest (width sizes) (childrenAt (treeOf file) (demandOf file) allows x serving) (siblingsAt (treeOf file) (demandOf file) allows x serving) cached uncached rest)
+      (held : LinesHoldBest (budgetOf file + 1) (childrenAt (treeOf file) (demandOf file) allows x serving) (siblingsAt (treeOf file) (demandOf file) allows x serving) cached uncached rest)
       (p : member ≡ payAt (treeOf file) (demandOf file) allows x serving true) (q : other ≡ payAt (treeOf file) (demandOf file) allows x serving false) where
-    -- the lines are right for up to m caches
-    pub split-parts : LineParts (m + 1) cached uncached rest member other
-    split-parts =
-        line-parts-fewer (m + 1) (width sizes) (omega (arith, split-within))
-        (parts-read (treeOf file) (demandOf file) allows (width sizes) (table-sound (r .table)) at held refl p q)
+    -- the lines are right
+    pub split-parts : LineParts cached uncached rest member other
+    split-parts = parts-read (treeOf file) (demandOf file) allows (budgetOf file) (table-sound (r .table)) at held p q
 
-    -- at or below x there are no more than the nodes from x up to its next sibling
-    pub split-bound : {sibling most : ℕ} → sibling ≡ wordOf s x siblingWord → MostBelow x sibling m most
-        → SplitBound cached uncached rest member other m most
+    -- the row's own entry is the least of the splits, and m caches fit
+    pub split-least : {row : List ℕ} {least : ℕ} → row ≡ lineIn starts widths s x above → least ≡ entryOf row m
+        → (least ≡ lineBest cached uncached rest member other m) × (least < cap)
     unfolding nodeBestAt
-    split-bound f b =
+    split-least {least = least} e f =
         let t = treeOf file in
         let d = demandOf file in
-        let next = f ∙ r .table .stored .words .sibling x (r .site) (r .row .served .node) in
-        record {
-          within = b .within;
-          over =
-              λ n h k.
-              let fewer = b .nodes (omega arith) in
-              let is = next-sibling-is t (table-sound (r .table) .preorder) x (r .site) (r .row .served .node) (omega arith) in
-              rw (p, q, held-node _ (payAt t d allows x serving) _ _ _ _ _ held n (omega (arith, split-within)))
-              (node-best-over t d allows x serving n (omega arith));
-          attained =
-              rw (p, q, held-best _ (payAt t d allows x serving) _ _ _ _ _ held m split-within)
-              (rw (best-at-node t d allows x (r .site) (r .row .served .node) serving m) at (r .row .attained));
-        }
+        let is : least ≡ bestAt t d allows x serving m = f ∙ rw e (own-row (r .table) at (omega arith) .is m split-within) in (
+          is
+              ∙ best-at-node t d allows x (r .site) (r .row .served .node) serving m
+              ∙ rw (p, q) (sym (held-best _ (payAt t d allows x serving) _ _ _ _ _ held m split-within)),
+          rw is (r .row .attained),
+        )
 
     module _ {later : ℕ} (e : later ≡ lineLater cached uncached rest member other m) where
       -- what is read is the split, and then the node's own choice
@@ -74,8 +68,14 @@ module _ {file : List ℕ} {allows : ℕ → Bool → Bool} {sizes : code.Tree} 
       pub split-fits : later ≤ m
       split-fits = rw split-later (later-within (treeOf file) (demandOf file) allows x serving m (r .site) (r .row .served .node) (r .row .attained))
 
-      pub split-node-parts : NodeParts (m - later + 1) cached uncached member other
-      split-node-parts = parts-fewer (m - later + 1) (m + 1) (omega arith) (split-parts .node-parts)
+      -- with no caches at or below the node it is none
+      pub split-none : m ≤ later → false ≡ takesNode (treeOf file) (demandOf file) allows x serving (m - later)
+      split-none all =
+          let t = treeOf file in
+          let d = demandOf file in
+          let here = row-attained t d allows x serving m (r .site) (r .row .served .node) (r .row .attained) .0 in
+          let none : m - laterAt t d allows x serving m ≡ 0 = omega (arith, split-later) in
+          rw (split-later, none) (none-taken x _ (node-best-attained t d allows x serving 0 (rw none at here) .0))
 
       pub split-member : {u : Bool} → u ≡ lineTakes cached uncached member other (m - later)
           → u ≡ takesNode (treeOf file) (demandOf file) allows x serving (m - later)
@@ -83,5 +83,5 @@ module _ {file : List ℕ} {allows : ℕ → Bool → Bool} {sizes : code.Tree} 
       split-member f =
           let t = treeOf file in
           let d = demandOf file in
-          let within : m - later < width sizes = omega (arith, split-within) in
+          let within : m - later < budgetOf file + 1 = omega (arith, split-within) in
           rw (p, q) at f ∙ held-takes _ (payAt t d allows x serving) _ _ _ _ _ held (m - later) within

@@ -1,5 +1,5 @@
 -- The walk through the table: from a node to the row of its children, and from a row's first node to its later siblings.
-use mathlib.Core.Path.{_≡_, refl, sym, ap, _∙_}
+use mathlib.Core.Path.{_≡_, refl, sym, _∙_}
 use mathlib.Core.Bool.{Bool, true, false, cond}
 use mathlib.Core.List.{List}
 use Prim.Native.Nat.{ℕ, _+_, _-_, _≤_, _<_}
@@ -8,8 +8,7 @@ use native.Mathlib.Numerals.{add-one}
 use native.Mathlib.Omega.{arith}
 use lib.ListN.{length, set, length-set}
 use lib.Seq.{sets}
-use Rattle.model.specs.File.{treeOf, demandOf, countOf, budgetOf, mostNodes}
-use Rattle.fields.specs.declared.Tree as code
+use Rattle.model.specs.File.{treeOf, demandOf, countOf, mostNodes}
 use Rattle.model.specs.Accepted.{Sound}
 use Rattle.best_rows.specs.Rows.{rowSize}
 use Rattle.best_rows.specs.Best.{cap}
@@ -18,22 +17,19 @@ use Rattle.best_rows.specs.BestAt.{one, bestAt, bestNodes, nodeBestAt, takesNod
 use Rattle.best_rows.proofs.Table.{row-size-node}
 use Rattle.node_words.specs.Words.{wordOf, childWord, siblingWord, HasNode}
 use Rattle.table.specs.Table.{Table}
-use Rattle.table.proofs.Room.{room-sound, room-count, stored-node}
+use Rattle.table.proofs.Room.{room-sound, stored-node}
 use Rattle.optimum.specs.Walk.{nodesFrom, RowHas, RowToSplit, RowToWalk, NodeToWalk, Walked}
 use Rattle.optimum.proofs.Served.{children-served, children-served-above, siblings-served}
 use Rattle.optimum.proofs.Nodes.{row-has-node, row-without, node-without, children-attained, later-within, row-attained, row-stores}
 
 -- ---- what a table says
 
-module _ {file : List ℕ} {allows : ℕ → Bool → Bool} {sizes : code.Tree} {s : List ℕ} (r : Table file allows sizes s) where
+module _ {file : List ℕ} {allows : ℕ → Bool → Bool} {starts widths s : List ℕ} (r : Table file allows starts widths s) where
   pub table-sound : Sound (treeOf file) (demandOf file)
   table-sound = room-sound (r .stored .room)
 
   pub table-has-node : {v : ℕ} → v < countOf file → HasNode s v
-  table-has-node h = stored-node (r .stored) (rw (room-count (r .stored .room)) h)
-
-  pub table-budget : sizes .budget ≡ budgetOf file
-  table-budget = ap (λ z. z .budget) (r .stored .room .of-file)
+  table-has-node h = stored-node (r .stored) h
 
   -- a first child, as it is read
   pub table-child : {v child : ℕ} → v < countOf file → child ≡ wordOf s v childWord → child ≡ firstChild (treeOf file) v
@@ -41,8 +37,8 @@ module _ {file : List ℕ} {allows : ℕ → Bool → Bool} {sizes : code.Tree} 
 
 -- ---- at a node with n caches at or below it
 
-module _ {file : List ℕ} {allows : ℕ → Bool → Bool} {sizes : code.Tree} {s : List ℕ} {x serving n : ℕ} {member : Bool} {at : ℕ} {rows : List ℕ}
-    (r : NodeToWalk file allows sizes s x serving n member at rows) where
+module _ {file : List ℕ} {allows : ℕ → Bool → Bool} {starts widths s : List ℕ} {x serving n : ℕ} {member : Bool} {at : ℕ} {rows : List ℕ}
+    (r : NodeToWalk file allows starts widths s x serving n member at rows) where
   pub node-stands : HasNode s x
   node-stands = table-has-node (r .table) (r .node .served .node)
 
@@ -65,7 +61,7 @@ module _ {file : List ℕ} {allows : ℕ → Bool → Bool} {sizes : code.Tree} 
       pub member-some : 0 < n
       member-some = rw (sym (r .own) ∙ m) at attained .0
 
-      pub member-row : RowToWalk file allows sizes s child x (n - 1) (at + 1) (set rows at x)
+      pub member-row : RowToWalk file allows starts widths s child x (n - 1) (at + 1) (set rows at x)
       member-row = rw below-is (record {
         table = r .table;
         row = record {
@@ -83,7 +79,7 @@ module _ {file : List ℕ} {allows : ℕ → Bool → Bool} {sizes : code.Tree} 
 
     -- it is none: all among its children
     module _ (m : member ≡ false) where
-      pub other-row : RowToWalk file allows sizes s child serving n at rows
+      pub other-row : RowToWalk file allows starts widths s child serving n at rows
       other-row = rw below-is (record {
         table = r .table;
         row = record {
@@ -101,15 +97,15 @@ module _ {file : List ℕ} {allows : ℕ → Bool → Bool} {sizes : code.Tree} 
 
 -- ---- at a row with m caches
 
-module _ {file : List ℕ} {allows : ℕ → Bool → Bool} {sizes : code.Tree} {s : List ℕ} {serving first count start : ℕ} {old : List ℕ} where
-  pub serving-stands : RowToWalk file allows sizes s first serving count start old → HasNode s serving
+module _ {file : List ℕ} {allows : ℕ → Bool → Bool} {starts widths s : List ℕ} {serving first count start : ℕ} {old : List ℕ} where
+  pub serving-stands : RowToWalk file allows starts widths s first serving count start old → HasNode s serving
   serving-stands h = table-has-node (h .table) (h .row .served .above)
 
-  pub walk-begins : RowToWalk file allows sizes s first serving count start old
-      → Walked file allows sizes s serving first count start old first count start old
+  pub walk-begins : RowToWalk file allows starts widths s first serving count start old
+      → Walked file allows starts widths s serving first count start old first count start old
   walk-begins h = record { here = h; left = refl; smaller = le-refl _; long = refl; stores = refl }
 
-  module _ {x m at : ℕ} {new : List ℕ} (w : Walked file allows sizes s serving first count start old x m at new) where
+  module _ {x m at : ℕ} {new : List ℕ} (w : Walked file allows starts widths s serving first count start old x m at new) where
     pub walk-ends : m ≤ 0 → (at ≡ start + count) × (new ≡ sets old start (bestNodes (treeOf file) (demandOf file) allows first serving count))
     walk-ends h =
         let none : m ≡ 0 = omega arith in
@@ -123,7 +119,7 @@ module _ {file : List ℕ} {allows : ℕ → Bool → Bool} {sizes : code.Tree} 
       walked-site : 0 < x
       walked-site = row-has-node (treeOf file) (demandOf file) allows x serving m some (row .attained)
 
-      pub walked-row : RowToSplit file allows sizes s x serving m
+      pub walked-row : RowToSplit file allows starts widths s x serving m
       walked-row = record { table = w .here .table; site = walked-site; row = row }
 
       pub walked-stands : HasNode s x
@@ -153,7 +149,7 @@ module _ {file : List ℕ} {allows : ℕ → Bool → Bool} {sizes : code.Tree} 
         both-attained = rw e (row-attained (treeOf file) (demandOf file) allows x serving m walked-site (row .served .node) (row .attained))
 
         pub walked-node : {member : Bool} → member ≡ takesNode (treeOf file) (demandOf file) allows x serving (m - later)
-            → NodeToWalk file allows sizes s x serving (m - later) member at new
+            → NodeToWalk file allows starts widths s x serving (m - later) member at new
         walked-node u = record {
           table = w .here .table;
           node = record {
@@ -168,7 +164,7 @@ module _ {file : List ℕ} {allows : ℕ → Bool → Bool} {sizes : code.Tree} 
 
         pub walk-turns : {end next : ℕ} {l : List ℕ} → next ≡ wordOf s x siblingWord → end ≡ at + (m - later)
             → l ≡ sets new at (nodesFrom (treeOf file) (demandOf file) allows x serving (m - later)) → length l ≡ length new
-            → Walked file allows sizes s serving first count start old next later end l
+            → Walked file allows starts widths s serving first count start old next later end l
         walk-turns f g k long =
             let t = treeOf file in
             let d = demandOf file in
@@ -190,7 +186,7 @@ module _ {file : List ℕ} {allows : ℕ → Bool → Bool} {sizes : code.Tree} 
 
         -- all are among the later siblings
         pub walk-passes : {next : ℕ} → next ≡ wordOf s x siblingWord → m ≤ later
-            → Walked file allows sizes s serving first count start old next m at new
+            → Walked file allows starts widths s serving first count start old next m at new
         walk-passes f all =
             let same : later ≡ m = omega (arith, walked-later) in
             let none : m - later ≡ 0 = omega arith in

@@ -7,7 +7,6 @@ use lib.Seq.{sets}
 use Rattle.laws.specs.Lists.{range}
 use Rattle.model.specs.File.{treeOf, demandOf, budgetOf}
 use Rattle.model.specs.Plan.{plan, planTotal, row}
-use Rattle.fields.specs.declared.Tree as code
 use Rattle.best_rows.specs.Guarded.{mayBe}
 use Rattle.best_rows.specs.BestAt.{leastCount}
 use Rattle.table.specs.Table.{Table}
@@ -17,8 +16,9 @@ abbrev pub planRow : List ℕ → ℕ → List ℕ
 planRow file b = row (budgetOf file) (plan (treeOf file) (demandOf file) b)
 
 -- what budget b is written from: the table, and how many caches the budget before it has
-pub record Budget (file : List ℕ) (sizes : code.Tree) (s : List ℕ) (b last : ℕ) : Type 0 where
-  pub table : Table file (mayBe (treeOf file)) sizes s
+pub record Budget (file : List ℕ) (k : ℕ) (starts widths s : List ℕ) (b last : ℕ) : Type 0 where
+  pub budget : k ≡ budgetOf file
+  pub table : Table file (mayBe (treeOf file)) starts widths s
   pub within : b ≤ budgetOf file
   pub counted : last ≡ leastCount (treeOf file) (demandOf file) (mayBe (treeOf file)) (b - 1)
 

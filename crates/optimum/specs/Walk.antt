@@ -9,7 +9,6 @@ use lib.ListN.{length}
 use lib.Seq.{sets}
 use Rattle.model.specs.File.{Tree, Demand, treeOf, demandOf, budgetOf}
 use Rattle.model.specs.Tree.{depth}
-use Rattle.fields.specs.declared.Tree as code
 use Rattle.best_rows.specs.Rows.{ifMember, rowSize}
 use Rattle.best_rows.specs.Best.{cap}
 use Rattle.best_rows.specs.TreeRows.{firstChild, rowAt}
@@ -44,32 +43,27 @@ module _ (file : List ℕ) (allows : ℕ → Bool → Bool) (x serving : ℕ) wh
     pub within : n ≤ budgetOf file
     pub attained : nodeBestAt (treeOf file) (demandOf file) allows x serving n < cap
 
--- of m caches no more than `most` fit at or below x: all of them, or as many as there are nodes from x up to its next sibling
-pub record MostBelow (x sibling m most : ℕ) : Type 0 where
-  pub within : most ≤ m
-  pub nodes : most < m → (x < sibling) × (sibling - x ≤ most)
-
 -- ---- what the walk needs: the table, a number of caches that fits, and room for them in the rows of the answer
 
-pub record RowToSplit (file : List ℕ) (allows : ℕ → Bool → Bool) (sizes : code.Tree) (s : List ℕ) (x serving m : ℕ) : Type 0 where
-  pub table : Table file allows sizes s
+pub record RowToSplit (file : List ℕ) (allows : ℕ → Bool → Bool) (starts widths s : List ℕ) (x serving m : ℕ) : Type 0 where
+  pub table : Table file allows starts widths s
   pub site : 0 < x
   pub row : RowHas file allows x serving m
 
-pub record RowToWalk (file : List ℕ) (allows : ℕ → Bool → Bool) (sizes : code.Tree) (s : List ℕ) (x serving m at : ℕ) (rows : List ℕ) : Type 0 where
-  pub table : Table file allows sizes s
+pub record RowToWalk (file : List ℕ) (allows : ℕ → Bool → Bool) (starts widths s : List ℕ) (x serving m at : ℕ) (rows : List ℕ) : Type 0 where
+  pub table : Table file allows starts widths s
   pub row : RowHas file allows x serving m
   pub room : at + m ≤ length rows
 
-pub record NodeToWalk (file : List ℕ) (allows : ℕ → Bool → Bool) (sizes : code.Tree) (s : List ℕ) (x serving n : ℕ) (member : Bool) (at : ℕ) (rows : List ℕ) : Type 0 where
-  pub table : Table file allows sizes s
+pub record NodeToWalk (file : List ℕ) (allows : ℕ → Bool → Bool) (starts widths s : List ℕ) (x serving n : ℕ) (member : Bool) (at : ℕ) (rows : List ℕ) : Type 0 where
+  pub table : Table file allows starts widths s
   pub node : NodeHas file allows x serving n
   pub own : member ≡ takesNode (treeOf file) (demandOf file) allows x serving n
   pub room : at + n ≤ length rows
 
 -- a walk that began at node `first` with `count` caches to write from `start` on is at node x, with m still to write from `at` on
-pub record Walked (file : List ℕ) (allows : ℕ → Bool → Bool) (sizes : code.Tree) (s : List ℕ) (serving first count start : ℕ) (old : List ℕ) (x m at : ℕ) (new : List ℕ) : Type 0 where
-  pub here : RowToWalk file allows sizes s x serving m at new
+pub record Walked (file : List ℕ) (allows : ℕ → Bool → Bool) (starts widths s : List ℕ) (serving first count start : ℕ) (old : List ℕ) (x m at : ℕ) (new : List ℕ) : Type 0 where
+  pub here : RowToWalk file allows starts widths s x serving m at new
   pub left : at + m ≡ start + count
   pub smaller : rowSize (rowAt (treeOf file) x) ≤ rowSize (rowAt (treeOf file) first)
   pub long : length new ≡ length old

@@ -3,21 +3,23 @@ ghost use mathlib.Core.Path.{_≡_};
 ghost use mathlib.Core.Bool.{_&&_};
 ghost use Prim.Native.Nat.{suc, _+_, _-_, _*_, _≤_, _<_};
 ghost use lib.Dec.{leb};
-ghost use lib.ListN.{length, getD, set, replicate};
+ghost use lib.ListN.{length, set, replicate};
 ghost use lib.Seq.{sets};
 ghost use Rattle.laws.specs.Fronts.{FrontOnly};
-ghost use Rattle.model.specs.File.{mostBudget, recordLength, treeOf, demandOf};
+ghost use Rattle.model.specs.File.{mostBudget, recordLength, budgetOf, treeOf, demandOf};
 ghost use Rattle.model.specs.Rules.{scratchWords};
 ghost use Rattle.model.specs.Plan.{planTotal, row};
 ghost use Rattle.model.specs.Calls.{planTotals, planRows, PlanCall};
 ghost use Rattle.tree_file.specs.Checks.{verdictOf};
+ghost use Rattle.lent.specs.Lent.{LentRoom};
 ghost use Rattle.best_rows.specs.Least.{better};
 ghost use Rattle.best_rows.specs.Guarded.{mayBe};
 ghost use Rattle.best_rows.specs.TreeRows.{firstChild};
 ghost use Rattle.best_rows.specs.BestAt.{bestNodes, leastCount, takesNode, laterAt};
 ghost use Rattle.node_words.specs.Words.{depthWord, wordOf};
-ghost use Rattle.table.specs.Table.{TableRoom, Table};
-ghost use Rattle.optimum.specs.Walk.{nodesFrom, MostBelow, RowToSplit, RowToWalk, NodeToWalk};
+ghost use Rattle.lines.specs.Line.{entryOf};
+ghost use Rattle.table.specs.Table.{Table};
+ghost use Rattle.optimum.specs.Walk.{nodesFrom, RowToSplit, RowToWalk, NodeToWalk};
 ghost use Rattle.optimum.specs.Budgets.{planRow, Budget, Buffers};
 use tree_file::Checked;
 use tree_file::Ruling;
@@ -31,44 +33,41 @@ struct Split {
 
 // ---- the walk through the table
 
-// The most of m caches that can be at or below x: if x has a next sibling, as many as there are nodes from x up to that sibling.
-fn most_below(x: usize, sibling: usize, m: usize) -> usize
-    ensures { λ r. ⌜ MostBelow x sibling m r ⌝ }
-{
-    if sibling <= x {
-        return m;
-    }
-    let nodes = sibling - x;
-    if nodes < m { nodes } else { m }
-}
-
 // How the m caches of the row that begins with x split, where `serving` is the serving node above it, at depth `above`. Records of
 // the file have `size` bytes.
 fn split_of(
     file: &[u8],
     size: usize,
-    tree: fields::Tree,
     s: &[u64],
+    starts: &[u32],
+    widths: &[u16],
     x: usize,
     serving: usize,
     above: usize,
     m: usize,
 ) -> Split
-    requires { ⌜ RowToSplit (now file) (mayBe (treeOf (now file))) tree (now s) x serving m ⌝ }
+    requires { ⌜ RowToSplit (now file) (mayBe (treeOf (now file))) (now starts) (now widths) (now s) x serving m ⌝ }
     requires { ⌜ (size ≡ recordLength (now file)) × (above ≡ wordOf (now s) serving depthWord) ⌝ }
     ensures { λ r. ⌜ r .later ≡ laterAt (treeOf (now (file .entry))) (demandOf (now (file .entry))) (mayBe (treeOf (now (file .entry)))) x serving m ⌝ }
     ensures { λ r. ⌜ r .member ≡ takesNode (treeOf (now (file .entry))) (demandOf (now (file .entry))) (mayBe (treeOf (now (file .entry)))) x serving (m - r .later) ⌝ }
 {
     let child = node_words::child_of(s, x);
-    let cached = table::line(s, tree, child, node_words::depth_word(s, x));
-    let uncached = table::line(s, tree, child, above);
+    let cached = table::line(s, starts, widths, child, node_words::depth_word(s, x));
+    let uncached = table::line(s, starts, widths, child, above);
     let sibling = node_words::sibling_of(s, x);
-    let rest = table::line(s, tree, sibling, above);
+    let rest = table::line(s, starts, widths, sibling, above);
+    let least = lines::entry(table::line(s, starts, widths, x, above), m);
     let part = fields::cachable_in(file, size, x);
     let member = table::pays_itself(file, size, part, s, x);
     let other = table::pays(file, size, part, s, x, serving);
-    let most = most_below(x, sibling, m);
-    let later = lines::later(cached, uncached, rest, member, other, m, most);
+    let later = lines::later(cached, uncached, rest, member, other, m, least);
+    // with no caches at or below x it is none of them
+    if m <= later {
+        return Split {
+            later,
+            member: false,
+        };
+    }
     Split {
         later,
         member: lines::takes(cached, uncached, member, other, m - later),
@@ -78,8 +77,9 @@ fn split_of(
 // Writes the n caches at or below x from `at` on, x being one of them if it is a member, and returns where they end.
 fn walk_node(
     file: &[u8],
-    tree: fields::Tree,
     s: &[u64],
+    starts: &[u32],
+    widths: &[u16],
     rows: &mut [u16],
     x: usize,
     serving: usize,
@@ -87,30 +87,31 @@ fn walk_node(
     member: bool,
     at: usize,
 ) -> usize
-    requires { ⌜ NodeToWalk (now file) (mayBe (treeOf (now file))) tree (now s) x serving n member at (now rows) ⌝ }
+    requires { ⌜ NodeToWalk (now file) (mayBe (treeOf (now file))) (now starts) (now widths) (now s) x serving n member at (now rows) ⌝ }
     ensures { λ r. ⌜ r ≡ at + n ⌝ }
     ensures { λ _. ⌜ now (rows .exit) ≡ sets (now (rows .entry)) at (nodesFrom (treeOf (now (file .entry))) (demandOf (now (file .entry))) (mayBe (treeOf (now (file .entry)))) x serving n) ⌝ }
 {
     let child = node_words::child_of(s, x);
     if member {
         rows[at] = x as u16;
-        return walk_row(file, tree, s, rows, child, x, n - 1, at + 1);
+        return walk_row(file, s, starts, widths, rows, child, x, n - 1, at + 1);
     }
-    walk_row(file, tree, s, rows, child, serving, n, at)
+    walk_row(file, s, starts, widths, rows, child, serving, n, at)
 }
 
 // Writes the `count` caches of the row that begins with `first` from `start` on, and returns where they end.
 fn walk_row(
     file: &[u8],
-    tree: fields::Tree,
     s: &[u64],
+    starts: &[u32],
+    widths: &[u16],
     rows: &mut [u16],
     first: usize,
     serving: usize,
     count: usize,
     start: usize,
 ) -> usize
-    requires { ⌜ RowToWalk (now file) (mayBe (treeOf (now file))) tree (now s) first serving count start (now rows) ⌝ }
+    requires { ⌜ RowToWalk (now file) (mayBe (treeOf (now file))) (now starts) (now widths) (now s) first serving count start (now rows) ⌝ }
     ensures { λ r. ⌜ r ≡ start + count ⌝ }
     ensures { λ _. ⌜ now (rows .exit) ≡ sets (now (rows .entry)) start (bestNodes (treeOf (now (file .entry))) (demandOf (now (file .entry))) (mayBe (treeOf (now (file .entry)))) first serving count) ⌝ }
 {
@@ -120,10 +121,21 @@ fn walk_row(
     let mut m = count;
     let mut at = start;
     while 0 < m {
-        let split = split_of(file, size, tree, s, x, serving, above, m);
+        let split = split_of(file, size, s, starts, widths, x, serving, above, m);
         let later = split.later;
         if later < m {
-            at = walk_node(file, tree, s, rows, x, serving, m - later, split.member, at);
+            at = walk_node(
+                file,
+                s,
+                starts,
+                widths,
+                rows,
+                x,
+                serving,
+                m - later,
+                split.member,
+                at,
+            );
             m = later;
         }
         x = node_words::sibling_of(s, x);
@@ -135,10 +147,9 @@ fn walk_row(
 
 // The better of two numbers of caches by the entries of a line: `last`, unless `next` costs less.
 fn better_count(line: &[u64], last: usize, next: usize) -> usize
-    requires { ⌜ (last < length (now line)) × (next < length (now line)) ⌝ }
-    ensures { λ r. ⌜ r ≡ better (λ n. getD (now (line .entry)) n 0) last next ⌝ }
+    ensures { λ r. ⌜ r ≡ better (entryOf (now (line .entry))) last next ⌝ }
 {
-    if Total(line[next]).is_less(Total(line[last])) {
+    if lines::entry(line, next).is_less(lines::entry(line, last)) {
         next
     } else {
         last
@@ -158,54 +169,85 @@ fn clear(rows: &mut [u16], start: usize, end: usize)
 }
 
 // Writes a row of the answer from `at` on: the m caches of the server's row, then zeros.
-fn write_row(file: &[u8], tree: fields::Tree, s: &[u64], rows: &mut [u16], m: usize, at: usize)
-    requires { ⌜ RowToWalk (now file) (mayBe (treeOf (now file))) tree (now s) (firstChild (treeOf (now file)) 0) 0 m at (now rows) ⌝ }
-    requires { ⌜ at + tree .budget ≤ length (now rows) ⌝ }
-    ensures { λ _. ⌜ now (rows .exit) ≡ sets (now (rows .entry)) at (row (tree .budget) (bestNodes (treeOf (now (file .entry))) (demandOf (now (file .entry))) (mayBe (treeOf (now (file .entry)))) (firstChild (treeOf (now (file .entry))) 0) 0 m)) ⌝ }
+fn write_row(
+    file: &[u8],
+    k: usize,
+    s: &[u64],
+    starts: &[u32],
+    widths: &[u16],
+    rows: &mut [u16],
+    m: usize,
+    at: usize,
+)
+    requires { ⌜ k ≡ budgetOf (now file) ⌝ }
+    requires { ⌜ RowToWalk (now file) (mayBe (treeOf (now file))) (now starts) (now widths) (now s) (firstChild (treeOf (now file)) 0) 0 m at (now rows) ⌝ }
+    requires { ⌜ at + k ≤ length (now rows) ⌝ }
+    ensures { λ _. ⌜ now (rows .exit) ≡ sets (now (rows .entry)) at (row k (bestNodes (treeOf (now (file .entry))) (demandOf (now (file .entry))) (mayBe (treeOf (now (file .entry)))) (firstChild (treeOf (now (file .entry))) 0) 0 m)) ⌝ }
 {
-    let end = walk_row(file, tree, s, rows, node_words::child_of(s, 0), 0, m, at);
-    clear(rows, end, at + tree.budget);
+    let end = walk_row(
+        file,
+        s,
+        starts,
+        widths,
+        rows,
+        node_words::child_of(s, 0),
+        0,
+        m,
+        at,
+    );
+    clear(rows, end, at + k);
 }
 
 // Writes the total and the row of budget b, and returns how many caches it has; `last` is how many the budget before has.
 fn write_budget(
     file: &[u8],
-    tree: fields::Tree,
+    k: usize,
     s: &[u64],
+    starts: &[u32],
+    widths: &[u16],
     totals: &mut [u64],
     rows: &mut [u16],
     b: usize,
     last: usize,
 ) -> usize
-    requires { ⌜ Budget (now file) tree (now s) b last ⌝ }
+    requires { ⌜ Budget (now file) k (now starts) (now widths) (now s) b last ⌝ }
     requires { ⌜ Buffers (now file) (now totals) (now rows) ⌝ }
     ensures { λ r. ⌜ r ≡ leastCount (treeOf (now (file .entry))) (demandOf (now (file .entry))) (mayBe (treeOf (now (file .entry)))) b ⌝ }
     ensures { λ _. ⌜ now (totals .exit) ≡ set (now (totals .entry)) b (planTotal (treeOf (now (file .entry))) (demandOf (now (file .entry))) b) ⌝ }
-    ensures { λ _. ⌜ now (rows .exit) ≡ sets (now (rows .entry)) (b * tree .budget) (planRow (now (file .entry)) b) ⌝ }
+    ensures { λ _. ⌜ now (rows .exit) ≡ sets (now (rows .entry)) (b * k) (planRow (now (file .entry)) b) ⌝ }
 {
-    let line = table::line(s, tree, node_words::child_of(s, 0), 0);
+    let line = table::line(s, starts, widths, node_words::child_of(s, 0), 0);
     let count = better_count(line, last, b);
-    totals[b] = line[count];
-    write_row(file, tree, s, rows, count, b * tree.budget);
+    totals[b] = lines::entry(line, count).0;
+    write_row(file, k, s, starts, widths, rows, count, b * k);
     count
 }
 
 // Writes every budget.
-fn write_plan(file: &[u8], tree: fields::Tree, s: &[u64], totals: &mut [u64], rows: &mut [u16])
-    requires { ⌜ Table (now file) (mayBe (treeOf (now file))) tree (now s) ⌝ }
+fn write_plan(
+    file: &[u8],
+    k: usize,
+    s: &[u64],
+    starts: &[u32],
+    widths: &[u16],
+    totals: &mut [u64],
+    rows: &mut [u16],
+)
+    requires { ⌜ k ≡ budgetOf (now file) ⌝ }
+    requires { ⌜ Table (now file) (mayBe (treeOf (now file))) (now starts) (now widths) (now s) ⌝ }
     requires { ⌜ Buffers (now file) (now totals) (now rows) ⌝ }
     ensures { λ _. ⌜ now (totals .exit) ≡ sets (now (totals .entry)) 0 (planTotals (now (file .entry))) ⌝ }
     ensures { λ _. ⌜ now (rows .exit) ≡ sets (now (rows .entry)) 0 (planRows (now (file .entry))) ⌝ }
 {
     let mut count = 0;
     let mut b = 0;
-    while b <= tree.budget {
-        count = write_budget(file, tree, s, totals, rows, b, count);
+    while b <= k {
+        count = write_budget(file, k, s, starts, widths, totals, rows, b, count);
         b += 1;
     }
 }
 
-// Fills the table in the scratch, and writes the plan from it.
+// Notes where the lines stand, fills the table in the scratch, and writes the plan from it.
 pub fn make_plan(
     file: &[u8],
     tree: fields::Tree,
@@ -213,14 +255,17 @@ pub fn make_plan(
     totals: &mut [u64],
     rows: &mut [u16],
 )
-    requires { ⌜ TableRoom (now file) tree (now scratch) ⌝ }
+    requires { ⌜ LentRoom (now file) tree (now scratch) ⌝ }
     requires { ⌜ Buffers (now file) (now totals) (now rows) ⌝ }
     ensures { λ _. ⌜ FrontOnly (scratchWords (now (file .entry))) (now (scratch .entry)) (now (scratch .exit)) ⌝ }
     ensures { λ _. ⌜ now (totals .exit) ≡ sets (now (totals .entry)) 0 (planTotals (now (file .entry))) ⌝ }
     ensures { λ _. ⌜ now (rows .exit) ≡ sets (now (rows .entry)) 0 (planRows (now (file .entry))) ⌝ }
 {
-    table::make_table(file, tree, scratch);
-    write_plan(file, tree, scratch, totals, rows);
+    let mut starts = [0u32; fields::Tree::NODES];
+    let mut widths = [0u16; fields::Tree::NODES];
+    places::note_places(file, tree, &mut starts, &mut widths);
+    table::make_table(file, tree.nodes, scratch, &starts, &widths);
+    write_plan(file, tree.budget, scratch, &starts, &widths, totals, rows);
 }
 
 // ---- the call

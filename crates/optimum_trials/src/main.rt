@@ -1,7 +1,7 @@
 // Sets the planner against full enumeration: on thousands of trees of at most six nodes, of every version, with ties of every kind
 // and with every pattern of closed nodes, it compares what the report holds at each budget, the bills of two sets and the rankings
 // of many with a reference that shares no code with the planner, and the report's buffers with those of the plan call and of the
-// greedy call.
+// greedy call. The report has just the words of scratch that rule 13 asks for; with one less each call is refused.
 //
 // It writes a line for each difference, and last how many trees, patterns of closed nodes and rankings it went through, how many
 // rankings were of two sets with equal totals, and how many refusals by rule 12.
@@ -27,6 +27,14 @@ fn differs(i: u64, at: usize, what: &[u8]) {
     trial_text::print_number(at as u64);
     io::write_all(STDOUT_FILENO, what);
     io::write_all(STDOUT_FILENO, b" differs\n");
+}
+
+// Is there too little scratch?
+fn is_short(ruling: Ruling) -> bool {
+    match ruling {
+        Ruling::Broken(rule, record) => { if rule == 13 { record == 0 } else { false } }
+        Ruling::Passed => false,
+    }
 }
 
 fn is_accepted(ruling: Ruling) -> bool {
@@ -204,8 +212,8 @@ fn same_nodes(a: &[u16], b: &[u16]) -> bool {
     a.len() == b.len()
 }
 
-// Does the plan call leave the same in its buffers as the report?
-fn check_plan_call(i: u64, file: &[u8], totals: &[u64], rows: &[u16]) {
+// Does the plan call leave the same in its buffers as the report, and the scratch beyond the words asked as it was?
+fn check_plan_call(i: u64, file: &[u8], words: usize, totals: &[u64], rows: &[u16]) {
     let mut scratch = [7u64; 300];
     let mut others = [7u64; 8];
     let mut other_rows = [7u16; 43];
@@ -218,10 +226,19 @@ fn check_plan_call(i: u64, file: &[u8], totals: &[u64], rows: &[u16]) {
     if !same_nodes(&other_rows, rows) {
         differs(i, 0, b" plan call's row");
     }
+    if !trial_text::all_from(&scratch, words, 7) {
+        differs(i, words, b" scratch beyond the plan call's");
+    }
 }
 
-// Does the greedy call leave the same in its buffers as the report?
-fn check_greedy_call(i: u64, file: &[u8], greedy_totals: &[u64], greedy_nodes: &[u16]) {
+// Does the greedy call leave the same in its buffers as the report, and the scratch beyond the words asked as it was?
+fn check_greedy_call(
+    i: u64,
+    file: &[u8],
+    words: usize,
+    greedy_totals: &[u64],
+    greedy_nodes: &[u16],
+) {
     let mut scratch = [7u64; 300];
     let mut others = [7u64; 8];
     let mut other_nodes = [7u16; 7];
@@ -234,12 +251,57 @@ fn check_greedy_call(i: u64, file: &[u8], greedy_totals: &[u64], greedy_nodes: &
     if !same_nodes(&other_nodes, greedy_nodes) {
         differs(i, 0, b" greedy call's node");
     }
+    if !trial_text::all_from(&scratch, words, 7) {
+        differs(i, words, b" scratch beyond the greedy call's");
+    }
 }
 
-// Lends at least one entry more than is written of each, all of them 7: no total, and no node.
+// Each call with this scratch, which has a word less than is asked.
+fn check_short(i: u64, file: &[u8], scratch: &mut [u64]) {
+    let mut totals = [7u64; 8];
+    let mut rows = [7u16; 43];
+    let mut greedy_totals = [7u64; 8];
+    let mut greedy_nodes = [7u16; 7];
+    if !is_short(optimum::plan(file, scratch, &mut totals, &mut rows)) {
+        differs(i, 0, b" plan's refusal by rule 13");
+    }
+    if !is_short(greedy::greedy(file, scratch, &mut greedy_totals, &mut greedy_nodes)) {
+        differs(i, 0, b" greedy rule's refusal by rule 13");
+    }
+    if !is_short(report::report(
+        file,
+        scratch,
+        &mut totals,
+        &mut rows,
+        &mut greedy_totals,
+        &mut greedy_nodes,
+    )) {
+        differs(i, 0, b" report's refusal by rule 13");
+    }
+}
+
+// The words of scratch that are asked of a tree.
+fn words_of(tree: SmallTree) -> usize
+    ensures { λ r. ⌜ r ≤ 300 ⌝ }
+{
+    small_plans::scratch_words(tree) as usize
+}
+
+// One word less than is asked.
+fn check_boundary(i: u64, tree: SmallTree, file: &[u8]) {
+    let mut scratch = [7u64; 300];
+    let words = words_of(tree);
+    if 0 < words {
+        check_short(i, file, &mut scratch[0..words - 1]);
+    }
+}
+
+// Lends just the words of scratch that are asked, and of each buffer at least one entry more than is written, all of them 7: no
+// total, and no node.
 fn check_report(i: u64, tree: SmallTree, k: usize, file: &[u8])
     requires { ⌜ k ≤ 6 ⌝ }
 {
+    let words = words_of(tree);
     let mut scratch = [7u64; 300];
     let mut totals = [7u64; 8];
     let mut rows = [7u16; 43];
@@ -247,7 +309,7 @@ fn check_report(i: u64, tree: SmallTree, k: usize, file: &[u8])
     let mut greedy_nodes = [7u16; 7];
     if !is_accepted(report::report(
         file,
-        &mut scratch,
+        &mut scratch[0..words],
         &mut totals,
         &mut rows,
         &mut greedy_totals,
@@ -257,8 +319,9 @@ fn check_report(i: u64, tree: SmallTree, k: usize, file: &[u8])
     }
     check_budgets(i, tree, k, &totals, &rows, &greedy_totals, &greedy_nodes);
     check_beyond(i, k, &totals, &rows, &greedy_totals, &greedy_nodes);
-    check_plan_call(i, file, &totals, &rows);
-    check_greedy_call(i, file, &greedy_totals, &greedy_nodes);
+    check_plan_call(i, file, words, &totals, &rows);
+    check_greedy_call(i, file, words, &greedy_totals, &greedy_nodes);
+    check_boundary(i, tree, file);
 }
 
 // ---- the bill of a set

@@ -14,8 +14,8 @@ use Rattle.model.specs.Tree.{height}
 use Rattle.model.specs.Rules.{Verdict, passed, isPassed, fileVerdict, accepted, scratchWords}
 use Rattle.model.specs.Calls.{after, planTotals, planRows, greedyTotals}
 use Rattle.model.specs.Report.{programNodes, programHeight, programBudget, isSmall, ReportMemory, reportVerdict, ReportCall}
+use Rattle.model.proofs.Words.{words-within}
 use Rattle.model.proofs.Reported.{report-passes}
-use Rattle.lent.proofs.Asked.{words-grow}
 use Rattle.program_report.specs.Memory.{programScratch}
 use Rattle.program_report.specs.declared.Report.{Report}
 
@@ -28,12 +28,10 @@ module _ (file : List ℕ) (small : isSmall file ≡ true) where
       let shape = both few low (parts .0) in
       (leb-true _ _ (shape .0), leb-true _ _ (shape .1), leb-true _ _ (parts .1))
 
-  words-within : scratchWords file ≤ programScratch
-  unfolding scratchWords
-  words-within =
-      let w = words-grow (limits .0) (limits .1) (limits .2) .1 in
+  enough-words : scratchWords file ≤ programScratch
+  enough-words =
       let n = limits .0 in
-      omega arith
+      omega (arith, words-within file {m = programNodes} {h = programHeight} {k = programBudget} (omega arith) (limits .1) (limits .2))
 
   rows-within : suc (budgetOf file) * budgetOf file ≤ suc programBudget * programBudget
   rows-within =
@@ -53,7 +51,7 @@ module _ (file : List ℕ) (small : isSmall file ≡ true) where
       let k = limits .2 in
       report-passes file memory .1 (
         ap isPassed ok,
-        rw s (le-leb _ _ words-within),
+        rw s (le-leb _ _ enough-words),
         rw (t, r, g, n, le-leb (suc (budgetOf file)) (suc programBudget) (omega arith), le-leb _ _ rows-within, le-leb (budgetOf file) programBudget k),
       )
 

@@ -7,7 +7,7 @@ use Rattle.model.specs.Calls.{after, planTotals, planRows, greedyTotals}
 use Rattle.model.specs.Report.{programNodes, programHeight, programBudget}
 use Rattle.program_report.specs.declared.Report.{Report}
 
--- the words of its scratch: n × (h + 1) × (k + 1) + 4 × n at the limits of rule 15
+-- the words of its scratch: n × (h + 1) × (k + 1) + 4 × n at the limits of rule 15, which is more than rule 13 asks for there
 abbrev pub programScratch : ℕ
 programScratch = programNodes * (programHeight + 1) * (programBudget + 1) + 4 * programNodes
 

@@ -7,13 +7,13 @@ use Rattle.model.specs.Rules.{passed, scratchWords}
 use Rattle.model.specs.Calls.{after, planTotals, planRows, greedyTotals, greedyRow}
 use Rattle.model.specs.Report.{ReportMemory}
 use Rattle.fields.specs.declared.Tree as code
-use Rattle.table.specs.Table.{TableRoom}
+use Rattle.lent.specs.Lent.{LentRoom}
 use Rattle.optimum.specs.Budgets.{Buffers}
 use Rattle.greedy.specs.Run.{GreedyRoom}
 
 -- an accepted file with its sizes, and room for both answers
 pub record ReportRoom (file : List ℕ) (sizes : code.Tree) (memory : ReportMemory) : Type 0 where
-  pub forPlan : TableRoom file sizes (memory .scratch)
+  pub forPlan : LentRoom file sizes (memory .scratch)
   pub planLong : Buffers file (memory .planTotals) (memory .planRows)
   pub forGreedy : GreedyRoom file (sizes .nodes) (sizes .budget) (memory .scratch) (memory .greedyTotals) (memory .greedyNodes)
 

@@ -178,6 +178,97 @@ pub fn loads_by_lengths(tree: SmallTree, set: u8) -> u64 {
         + load_by_length(tree, set, 5)
 }
 
+// ---- the words of scratch
+
+// 1 for a member of a set, else 0.
+fn one_if(set: u8, v: usize) -> u64
+    ensures { λ r. ⌜ r ≤ 1 ⌝ }
+{
+    if small_trees::has(set, v) {
+        return 1;
+    }
+    0
+}
+
+// How many nodes a set has.
+fn count(set: u8) -> u64
+    ensures { λ r. ⌜ r ≤ 6 ⌝ }
+{
+    one_if(set, 0)
+        + one_if(set, 1)
+        + one_if(set, 2)
+        + one_if(set, 3)
+        + one_if(set, 4)
+        + one_if(set, 5)
+}
+
+// How many links there are between v and the server.
+fn depth(tree: SmallTree, v: usize) -> u64
+    ensures { λ r. ⌜ r ≤ 6 ⌝ }
+{
+    less(count(small_trees::route(tree, v)), 1)
+}
+
+// The nodes at or below s if it is v or a later sibling of v, else no node.
+fn in_row(tree: SmallTree, v: usize, s: usize) -> u8 {
+    if s < v {
+        return 0;
+    }
+    if tree.nodes <= s {
+        return 0;
+    }
+    if small_trees::parent(tree, s) == small_trees::parent(tree, v) {
+        return at_or_below(tree, s);
+    }
+    0
+}
+
+// r(v): how many nodes are at or below v or one of its later siblings, closed ones too.
+fn row_nodes(tree: SmallTree, v: usize) -> u64
+    ensures { λ r. ⌜ r ≤ 6 ⌝ }
+{
+    count(
+        in_row(tree, v, 1)
+            | in_row(tree, v, 2)
+            | in_row(tree, v, 3)
+            | in_row(tree, v, 4)
+            | in_row(tree, v, 5),
+    )
+}
+
+// The lesser of two numbers, of which the second is at most 6.
+fn lesser(a: usize, b: u64) -> u64
+    requires { ⌜ b ≤ 6 ⌝ }
+    ensures { λ r. ⌜ r ≤ 6 ⌝ }
+{
+    if (a as u64) < b {
+        return a as u64;
+    }
+    b
+}
+
+// The words that node v adds: depth(v) × (min(k, r(v)) + 1), or none if the tree lacks it.
+fn words_of(tree: SmallTree, v: usize) -> u64
+    ensures { λ r. ⌜ r ≤ 6 * 7 ⌝ }
+{
+    if tree.nodes <= v {
+        return 0;
+    }
+    depth(tree, v) * (lesser(tree.budget, row_nodes(tree, v)) + 1)
+}
+
+// The words of scratch that rule 13 asks for: those of nodes 1, 2 and so on, and 4 × n.
+pub fn scratch_words(tree: SmallTree) -> u64
+    ensures { λ r. ⌜ r ≤ 234 ⌝ }
+{
+    words_of(tree, 1)
+        + words_of(tree, 2)
+        + words_of(tree, 3)
+        + words_of(tree, 4)
+        + words_of(tree, 5)
+        + 4 * lesser(tree.nodes, 6)
+}
+
 // ---- the order of ties, and ranking
 
 // Which of two sets comes first, if a test tells.

@@ -124,7 +124,7 @@ pub fn set_of(row: &[u16]) -> u8 {
 // ---- routes
 
 // The parent of v, 0 of the server.
-fn parent(tree: SmallTree, v: usize) -> usize {
+pub fn parent(tree: SmallTree, v: usize) -> usize {
     record_of(tree, v).parent as usize
 }
 

@@ -2,7 +2,7 @@
 //
 // `NAME nth I MASK` takes tree I of the sequence, `NAME file FILE MASK` the tree of a file. The answer is the name, the
 // tree's file, the plan's total and set for each budget, the greedy rule's totals and nodes, the bill of the set that
-// the mask says, and for each set in order of masks how many rank before it.
+// the mask says, for each set in order of masks how many rank before it, and the words of scratch that are asked.
 ghost use Prim.Native.Nat.{_≤_};
 use libc::STDIN_FILENO;
 use libc::STDOUT_FILENO;
@@ -122,12 +122,18 @@ fn print_ranks(tree: SmallTree) {
     }
 }
 
+fn print_words(tree: SmallTree) {
+    io::write_all(STDOUT_FILENO, b" words");
+    trial_text::print_number(small_plans::scratch_words(tree));
+}
+
 fn answer(tree: SmallTree, mask: u64) {
     print_file(tree);
     print_plans(tree);
     print_greedy(tree);
     print_bill(tree, (mask % 64) as u8);
     print_ranks(tree);
+    print_words(tree);
 }
 
 // ---- cases

@@ -3,17 +3,16 @@ use mathlib.Core.Path.{_≡_, sym, ap, _∙_}
 use mathlib.Core.List.{List}
 use Prim.Native.Nat.{ℕ, suc, _-_, _≤_, _<_}
 use native.Mathlib.Omega.{arith}
-use Rattle.model.specs.File.{treeOf}
+use Rattle.model.specs.File.{treeOf, countOf}
 use Rattle.model.specs.Tree.{depth}
 use Rattle.fields.specs.Table.{InFile}
-use Rattle.fields.specs.declared.Tree as code
 use Rattle.node_words.specs.Ancestors.{ancestorAt}
 use Rattle.node_words.proofs.Words.{room-record}
 use Rattle.node_words.proofs.Ancestors.{ancestor-self, ancestor-before, ancestor-up}
 use Rattle.table.specs.Table.{TableRoom, Served}
-use Rattle.table.proofs.Room.{room-sound, room-count, room-nodes}
+use Rattle.table.proofs.Room.{room-sound, room-nodes}
 
-module _ {file : List ℕ} {sizes : code.Tree} {v : ℕ} {s : List ℕ} (r : TableRoom file sizes s) (node : v < sizes .nodes) where
+module _ {file starts widths s : List ℕ} {v : ℕ} (r : TableRoom file starts widths s) (node : v < countOf file) where
   -- it begins at v itself
   pub climb-begins : {a : ℕ} → a ≡ depth (treeOf file) v → v ≡ ancestorAt (treeOf file) v a
   climb-begins e = sym (ap (ancestorAt (treeOf file) v) e ∙ ancestor-self (treeOf file) (room-sound r .preorder) v)
@@ -30,7 +29,7 @@ module _ {file : List ℕ} {sizes : code.Tree} {v : ℕ} {s : List ℕ} (r : Tab
       let above : a - 1 < depth (treeOf file) v = omega arith in
       record {
         site = site;
-        node = omega (arith, room-count r);
+        node = node;
         above = above;
         ancestor = p ∙ ap (treeOf file .parent) (e ∙ ap (ancestorAt (treeOf file) v) next) ∙ ancestor-up (treeOf file) (room-sound r .preorder) v (a - 1) above;
       }

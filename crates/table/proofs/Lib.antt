@@ -3,5 +3,6 @@ pub mod Lines
 pub mod Prices
 pub mod Room
 pub mod Reading
+pub mod OneLine
 pub mod Climb
 pub mod Fill

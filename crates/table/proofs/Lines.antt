@@ -1,8 +1,7 @@
 -- Laws of what the lines hold: the empty row's, those of children and later siblings, and the one that they join to.
-use mathlib.Core.Path.{_≡_, sym, ap, _∙_}
+use mathlib.Core.Path.{_≡_, refl, sym, ap, _∙_}
 use mathlib.Core.Bool.{Bool, true, false, cond}
-use mathlib.Core.List.{List, _++_, map}
-use mathlib.Core.Logic.{_⊎_, inl, inr}
+use mathlib.Core.List.{List, [], _∷_, _++_, map}
 use Prim.Native.Nat.{ℕ, _+_, _-_, _≤_, _<_}
 use native.Mathlib.Nat.{le-refl, add-sub-cancel-left}
 use native.Mathlib.Omega.{arith}
@@ -13,7 +12,7 @@ use Rattle.laws.proofs.Bools.{by-test}
 use Rattle.laws.proofs.Lists.{length-of-range}
 use Rattle.laws.proofs.Stores.{sets-part}
 use Rattle.laws.proofs.FrontValues.{same-on-range}
-use Rattle.model.specs.File.{Tree, Demand, mostNodes}
+use Rattle.model.specs.File.{Tree, Demand}
 use Rattle.model.specs.Bill.{price}
 use Rattle.model.specs.Accepted.{Sound}
 use Rattle.best_rows.specs.Rows.{rowSize}
@@ -22,12 +21,14 @@ use Rattle.best_rows.specs.Guarded.{guarded, mayBe}
 use Rattle.best_rows.specs.TreeRows.{firstChild, nextSibling, rowAt}
 use Rattle.best_rows.specs.BestAt.{one, prefer, site, bestAt, payAt, childrenAt, siblingsAt, nodeBestAt}
 use Rattle.best_rows.proofs.TreeRows.{row-at-none}
-use Rattle.best_rows.proofs.Table.{best-at-within-cap, best-at-over, best-at-node}
+use Rattle.best_rows.proofs.Table.{row-size-none, row-size-node, best-at-within-cap, best-at-over, best-at-node}
 use Rattle.node_words.specs.Ancestors.{ancestorAt}
-use Rattle.lines.specs.Line.{LineParts, RowBounds, lineBest, emptyBest, LinesHoldBest}
-use Rattle.lines.proofs.HeldBest.{held-parts, held-bounds, held-line, empty-is-best}
+use Rattle.places.specs.Places.{widthAt}
+use Rattle.lines.specs.Line.{LineParts, lineBest, emptyBest, HoldsBest, LinesHoldBest}
+use Rattle.lines.proofs.HeldBest.{holds-of-rule, held-parts, held-line, empty-is-best}
 use Rattle.table.specs.Table.{lineFor, asCache, Served}
 use Rattle.table.proofs.Prices.{price-within-cap}
+use Rattle.table.proofs.Places.{width-some}
 
 -- what the code works out at v is what v pays: as none always its price, as a cache where it may be one
 module _ (t : Tree) (d : Demand) (v u : ℕ) {x : ℕ} where
@@ -39,8 +40,31 @@ module _ (t : Tree) (d : Demand) (v u : ℕ) {x : ℕ} where
   unfolding mayBe
   pays-above e = e
 
+-- ---- how many entries a line has
+
+module _ (t : Tree) (k : ℕ) where
+  pub width-within : (x : ℕ) → widthAt t k x ≤ k + 1
+  unfolding widthAt
+  width-within x = omega arith
+
+  module _ (v : ℕ) (site : 0 < v) (node : v < t .count) where
+    -- the later siblings' no more than the row's
+    pub siblings-narrower : widthAt t k (nextSibling t v) ≤ widthAt t k v
+    unfolding widthAt
+    siblings-narrower = omega (arith, row-size-node t v site node)
+
+    -- the row's one more than that of one part, where the other is empty
+    pub last-width : nextSibling t v ≡ 0 → widthAt t k v ≤ widthAt t k (firstChild t v) + 1
+    unfolding widthAt
+    last-width none = let empty : rowSize (rowAt t (nextSibling t v)) ≡ 0 = rw none (row-size-none t) in omega (arith, row-size-node t v site node)
+
+    pub leaf-width : firstChild t v ≡ 0 → widthAt t k v ≤ widthAt t k (nextSibling t v) + 1
+    unfolding widthAt
+    leaf-width none = let empty : rowSize (rowAt t (firstChild t v)) ≡ 0 = rw none (row-size-none t) in omega (arith, row-size-node t v site node)
+
 module _ (t : Tree) (d : Demand) (allows : ℕ → Bool → Bool) where
-  best-at-empty : (c m : ℕ) → bestAt t d allows 0 c m ≡ emptyBest m
+  -- the least of the empty row
+  pub best-at-empty : (c m : ℕ) → bestAt t d allows 0 c m ≡ emptyBest m
   unfolding bestAt
   best-at-empty c m = rw (row-at-none t) (sym (empty-is-best one prefer (guarded allows (site t d)) c m))
 
@@ -50,63 +74,56 @@ module _ (t : Tree) (d : Demand) (allows : ℕ → Bool → Bool) where
       let paid = price-within-cap t d ok v (cond b v u) in
       by-test (λ a. cond a (price t d v (cond b v u)) cap ≤ cap) (allows v b) (λ _. paid) (λ _. le-refl cap)
 
-  module _ (w : ℕ) where
-    pub length-line-for : (x a : ℕ) → length (lineFor t d allows w x a) ≡ w
+  module _ (k : ℕ) where
+    pub length-line-for : (x a : ℕ) → length (lineFor t d allows k x a) ≡ widthAt t k x
     unfolding lineFor
-    length-line-for x a = length-of-range _ 0 w
+    length-line-for x a = length-of-range _ 0 (widthAt t k x)
 
-    empty-under : (c : ℕ) → map (bestAt t d allows 0 c) (range 0 w) ≡ map emptyBest (range 0 w)
-    empty-under c = same-on-range _ _ 0 w (λ m _ _. best-at-empty c m)
+    -- ---- what the line of a row holds
 
-    -- the empty row's line: 0 without caches, the cap with any
-    pub line-for-empty : (a : ℕ) → lineFor t d allows w 0 a ≡ map emptyBest (range 0 w)
-    unfolding lineFor
-    line-for-empty a = empty-under (ancestorAt t 0 a)
+    -- the empty row's, word 0 alone
+    pub empty-holds : (u : ℕ) {l : List ℕ} → l ≡ 0 ∷ [] → HoldsBest (k + 1) (bestAt t d allows 0 u) l
+    unfolding range emptyBest
+    empty-holds u e =
+        holds-of-rule (bestAt t d allows 0 u) (k + 1) 1 (e ∙ ap (λ (x : ℕ). x ∷ []) (sym (best-at-empty u 0))) (omega arith) (omega arith)
+        (λ m h l. best-at-over t d allows 0 u m (omega (arith, row-size-none t)))
 
-    -- the line of a row with u as the serving node
-    pub line-under : (c a u : ℕ) → (c ≡ 0) ⊎ (ancestorAt t c a ≡ u) → lineFor t d allows w c a ≡ map (bestAt t d allows c u) (range 0 w)
-    unfolding lineFor
-    line-under c a u (inl e) = rw e (line-for-empty a ∙ sym (empty-under u))
-    line-under c a u (inr e) = rw e
+    -- a row's with u as the serving node
+    pub line-holds : (x a u : ℕ) {l : List ℕ} → ancestorAt t x a ≡ u → l ≡ lineFor t d allows k x a → HoldsBest (k + 1) (bestAt t d allows x u) l
+    unfolding lineFor widthAt
+    line-holds x a u e f =
+        holds-of-rule (bestAt t d allows x u) (k + 1) (widthAt t k x) (f ∙ rw e) (width-some t k x) (width-within t k x)
+        (λ m h l. best-at-over t d allows x u m (omega arith))
 
-    -- the line of node v from those of its children, with v as a cache and without, and of its later siblings
+    -- ---- the line of node v from those of its children, with v as a cache and without, and of its later siblings
+
     line-joined : (v a u : ℕ) (cached uncached rest : List ℕ) → 0 < v → v < t .count → u ≡ ancestorAt t v a
-        → LinesHoldBest w (childrenAt t d allows v u) (siblingsAt t d allows v u) cached uncached rest
-        → map (lineBest cached uncached rest (payAt t d allows v u true) (payAt t d allows v u false)) (range 0 w) ≡ lineFor t d allows w v a
+        → LinesHoldBest (k + 1) (childrenAt t d allows v u) (siblingsAt t d allows v u) cached uncached rest
+        → map (lineBest cached uncached rest (payAt t d allows v u true) (payAt t d allows v u false)) (range 0 (widthAt t k v)) ≡ lineFor t d allows k v a
     unfolding lineFor nodeBestAt
-    line-joined v a u cached uncached rest h k e held =
-        held-line w (payAt t d allows v u) (childrenAt t d allows v u) (siblingsAt t d allows v u) cached uncached rest held
-        ∙ same-on-range _ _ 0 w (λ m _ _. sym (best-at-node t d allows v h k u m) ∙ ap (λ c. bestAt t d allows v c m) e)
+    line-joined v a u cached uncached rest h fits e held =
+        held-line (k + 1) (payAt t d allows v u) (childrenAt t d allows v u) (siblingsAt t d allows v u) cached uncached rest held (widthAt t k v) (width-within t k v)
+        ∙ same-on-range _ _ 0 (widthAt t k v) (λ m _ _. sym (best-at-node t d allows v h fits u m) ∙ ap (λ c. bestAt t d allows v c m) e)
 
     -- the same, of what the code made
     pub line-read : {v a u n member other : ℕ} {cached uncached rest : List ℕ} (l : List ℕ) → Served t v a u
-        → LinesHoldBest w (childrenAt t d allows v u) (siblingsAt t d allows v u) cached uncached rest
-        → n ≡ w → member ≡ payAt t d allows v u true → other ≡ payAt t d allows v u false
-        → l ≡ map (lineBest cached uncached rest member other) (range 0 n) → l ≡ lineFor t d allows w v a
+        → LinesHoldBest (k + 1) (childrenAt t d allows v u) (siblingsAt t d allows v u) cached uncached rest
+        → n ≡ widthAt t k v → member ≡ payAt t d allows v u true → other ≡ payAt t d allows v u false
+        → l ≡ map (lineBest cached uncached rest member other) (range 0 n) → l ≡ lineFor t d allows k v a
     line-read {v} {a} {u} {cached = cached} {uncached = uncached} {rest = rest} l at held e m o h =
         (rw (e, m, o) at h) ∙ line-joined v a u cached uncached rest (at .site) (at .node) (at .ancestor) held
 
     -- and where it was lent to be made, it was stored
-    pub line-put : (v a at n : ℕ) {l : List ℕ} (s : List ℕ) → at + n ≤ length s → n ≡ w → l ≡ lineFor t d allows w v a
-        → take at s ++ (l ++ drop (at + n - at) (drop at s)) ≡ sets s at (lineFor t d allows w v a)
+    pub line-put : (v a at n : ℕ) {l : List ℕ} (s : List ℕ) → at + n ≤ length s → n ≡ widthAt t k v → l ≡ lineFor t d allows k v a
+        → take at s ++ (l ++ drop (at + n - at) (drop at s)) ≡ sets s at (lineFor t d allows k v a)
     line-put v a at n s h e is =
-        rw (is, add-sub-cancel-left at n) (sets-part s at (lineFor t d allows w v a) n (omega (arith, length-line-for v a)) h)
+        rw (is, add-sub-cancel-left at n) (sets-part s at (lineFor t d allows k v a) n (omega (arith, length-line-for v a)) h)
 
     -- what the code makes it from
-    pub parts-read : {v a u n member other : ℕ} {cached uncached rest : List ℕ} → Sound t d → Served t v a u
-        → LinesHoldBest w (childrenAt t d allows v u) (siblingsAt t d allows v u) cached uncached rest
-        → n ≡ w → member ≡ payAt t d allows v u true → other ≡ payAt t d allows v u false → LineParts n cached uncached rest member other
-    parts-read {v} {a} {u} {cached = cached} {uncached = uncached} {rest = rest} ok at held e m o =
-        rw (e, m, o)
-        (held-parts w (payAt t d allows v u) (childrenAt t d allows v u) (siblingsAt t d allows v u) cached uncached rest held
+    pub parts-read : {v a u member other : ℕ} {cached uncached rest : List ℕ} → Sound t d → Served t v a u
+        → LinesHoldBest (k + 1) (childrenAt t d allows v u) (siblingsAt t d allows v u) cached uncached rest
+        → member ≡ payAt t d allows v u true → other ≡ payAt t d allows v u false → LineParts cached uncached rest member other
+    parts-read {v} {a} {u} {cached = cached} {uncached = uncached} {rest = rest} ok at held m o =
+        rw (m, o)
+        (held-parts (k + 1) (payAt t d allows v u) (childrenAt t d allows v u) (siblingsAt t d allows v u) cached uncached rest held
         (pay-within-cap ok v u) (λ b. best-at-within-cap t d allows (firstChild t v) (cond b v u)) (best-at-within-cap t d allows (nextSibling t v) u))
-
-    -- and how many caches fit in its parts
-    pub bounds-read : {v a u n below after : ℕ} {cached uncached rest : List ℕ} → Served t v a u
-        → LinesHoldBest w (childrenAt t d allows v u) (siblingsAt t d allows v u) cached uncached rest
-        → n ≡ w → below ≡ rowSize (rowAt t (firstChild t v)) → after ≡ rowSize (rowAt t (nextSibling t v))
-        → (below < mostNodes) × (after < mostNodes) → RowBounds n cached uncached rest below after
-    bounds-read {v} {a} {u} {cached = cached} {uncached = uncached} {rest = rest} at held e b f few =
-        rw e
-        (held-bounds w (payAt t d allows v u) (childrenAt t d allows v u) (siblingsAt t d allows v u) cached uncached rest held few
-        (λ x n h. best-at-over t d allows (firstChild t v) (cond x v u) n (omega arith)) (λ n h. best-at-over t d allows (nextSibling t v) u n (omega arith)))

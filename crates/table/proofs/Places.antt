@@ -1,80 +1,128 @@
 -- Laws of where lines stand: behind the words of the nodes, one after another, and what storing one of them changes.
 use mathlib.Core.Path.{_≡_}
 use mathlib.Core.List.{List}
-use Prim.Native.Nat.{ℕ, _+_, _*_, _≤_, _<_}
+use Prim.Native.Nat.{ℕ, zero, suc, _+_, _*_, _≤_, _<_, _^_}
 use native.Mathlib.Decide.{decLt}
-use native.Mathlib.Nat.{mul-le-mul}
 use native.Mathlib.Omega.{arith}
-use lib.ListN.{length, take}
+use lib.ListN.{length, take, getD}
 use lib.Seq.{sets, length-sets}
+use Rattle.laws.specs.Lists.{part}
 use Rattle.laws.specs.Fronts.{FrontOnly}
-use Rattle.laws.proofs.Numbers.{row-before, row-within}
-use Rattle.laws.proofs.Stores.{drop-sets, take-sets, part-after, part-before, part-same}
-use Rattle.model.specs.File.{mostNodes, mostDepth}
-use Rattle.fields.specs.declared.Tree as code
-use Rattle.node_words.specs.Words.{nodeWords}
-use Rattle.lines.specs.Line.{mostWidth}
-use Rattle.table.specs.Table.{width, lineNumber, lineAt, tableEnd, InTable, lineIn}
+use Rattle.laws.proofs.Numbers.{row-before}
+use Rattle.laws.proofs.Stores.{drop-sets, take-sets, part-after, part-same}
+use Rattle.model.specs.File.{Tree}
+use Rattle.model.specs.Tree.{depth}
+use Rattle.places.specs.Places.{widthAt, startAt}
+use Rattle.places.proofs.Places.{start-first, start-next, start-later}
+use Rattle.table.specs.Table.{lineAt, InTable, placeOf}
 
-module _ (sizes : code.Tree) where
-  -- a line of smaller number ends before
-  line-before : (x a y b : ℕ) → lineNumber sizes x a < lineNumber sizes y b → lineAt sizes x a + width sizes ≤ lineAt sizes y b
+-- ---- by the places noted
+
+module _ (starts widths : List ℕ) (a : ℕ) where
+  pub line-none : {x : ℕ} → x ≡ 0 → lineAt starts widths x a ≡ 0
   unfolding lineAt
-  line-before x a y b h = omega (arith, row-before (width sizes) h)
+  line-none e = rw e
 
-  pub line-within : (x a : ℕ) → x < sizes .nodes → a ≤ sizes .height → lineAt sizes x a + width sizes ≤ tableEnd sizes
-  unfolding lineAt tableEnd
-  line-within x a h k =
-      let last : a < sizes .height + 1 = omega arith in
-      omega (arith, row-before (width sizes) (row-within h last))
-
-  words-before : (x a : ℕ) → nodeWords * sizes .nodes ≤ lineAt sizes x a
+  -- from what the code reads of them
+  pub line-noted : {x start width : ℕ} → 0 < x → start ≡ getD starts x 0 → width ≡ getD widths x 0 → start + a * width ≡ lineAt starts widths x a
   unfolding lineAt
-  words-before x a = omega arith
+  line-noted {x = zero} h e f = absurd (omega arith)
+  line-noted {x = suc x} h e f = rw (e, f)
+
+-- an index in the scratch fits a word
+pub place-asked : {starts widths s : List ℕ} {x a : ℕ} → InTable starts widths s x a → length s < 2 ^ 64
+    → (x < length starts) × (x < length widths) × (lineAt starts widths x a < 2 ^ 64)
+place-asked p h = (p .noted .0, p .noted .1, omega (arith, p .inside))
+
+-- ---- by the tree
+
+module _ (t : Tree) (k : ℕ) where
+  -- a line has an entry
+  pub width-some : (x : ℕ) → 0 < widthAt t k x
+  unfolding widthAt
+  width-some x = omega arith
+
+  place-is : (x a : ℕ) → 0 < x → placeOf t k x a ≡ startAt t k x + a * widthAt t k x
+  unfolding placeOf
+  place-is zero a h = absurd (omega arith)
+  place-is (suc x) a h = omega arith
+
+  module _ (x : ℕ) (site : 0 < x) where
+    -- the first line begins where the node's lines begin
+    pub place-first : placeOf t k x 0 ≡ startAt t k x
+    place-first = omega (arith, place-is x 0 site)
+
+    -- a line ends where the next one begins
+    pub place-next : (a : ℕ) → placeOf t k x (a + 1) ≡ placeOf t k x a + widthAt t k x
+    place-next a = omega (arith, place-is x a site, place-is x (a + 1) site)
+
+    -- the last one where those of the next node begin
+    pub place-last : placeOf t k x (depth t x) ≡ startAt t k (x + 1)
+    place-last = omega (arith, place-is x (depth t x) site, start-next t k site)
+
+    module _ (a : ℕ) where
+      -- no line begins before its node's lines
+      pub place-from : startAt t k x ≤ placeOf t k x a
+      place-from = omega (arith, place-is x a site)
+
+      -- nor ends behind them
+      pub place-within : a < depth t x → placeOf t k x a + widthAt t k x ≤ startAt t k (x + 1)
+      place-within above = omega (arith, place-is x a site, start-next t k site, row-before (widthAt t k x) above)
+
+      -- the words of the nodes are before it
+      pub words-before : 4 * t .count ≤ placeOf t k x a
+      words-before = omega (arith, place-from, start-first t k, start-later t k {x = 1} {y = x} (omega arith))
+
+  -- one that begins no earlier than another and is not the same begins behind it
+  place-after : (v a x b : ℕ) → 0 < v → 0 < x → a < depth t v → b < depth t x → placeOf t k v a ≤ placeOf t k x b → ((x ≡ v) × (b ≡ a) → ⊥)
+      → placeOf t k v a + widthAt t k v ≤ placeOf t k x b
+  place-after v a x b site some above deep later other =
+      elim (decLt v x) [
+        | yes h ↦ omega (arith, place-within v site a above, start-later t k {x = v + 1} {y = x} (omega arith), place-from x some b)
+        | no h ↦
+            elim (decLt x v) [
+              | yes l ↦
+                  absurd (omega (arith, place-within x some b deep, start-later t k {x = x + 1} {y = v} (omega arith), place-from v site a, width-some x))
+              | no l ↦ same (omega arith)
+            ]
+      ]
+    where
+      same : x ≡ v → placeOf t k v a + widthAt t k v ≤ placeOf t k x b
+      same e =
+          let here = place-is v b site in
+          let there = place-is v a site in
+          elim (decLt a b) [
+            | yes h ↦ rw e (omega (arith, here, there, row-before (widthAt t k v) h))
+            | no h ↦
+                elim (decLt b a) [
+                  | yes l ↦ absurd (omega (arith, here, there, rw e at later, row-before (widthAt t k v) l, width-some v))
+                  | no l ↦ absurd (other (e, omega arith))
+                ]
+          ]
 
   -- ---- a line stored
 
-  module _ (s l : List ℕ) (v a : ℕ) (long : length l ≡ width sizes) where
+  module _ (s l : List ℕ) (v a : ℕ) (site : 0 < v) (above : a < depth t v) (long : length l ≡ widthAt t k v) where
     abbrev stored : List ℕ
-    stored = sets s (lineAt sizes v a) l
+    stored = sets s (placeOf t k v a) l
 
-    pub stored-line : v < sizes .nodes → a ≤ sizes .height → tableEnd sizes ≤ length s → lineIn sizes stored v a ≡ l
-    unfolding lineIn
-    stored-line h k room = part-same s (lineAt sizes v a) l (width sizes) long (omega (arith, line-within v a h k))
+    pub stored-line : placeOf t k v a + widthAt t k v ≤ length s → part stored (placeOf t k v a) (widthAt t k v) ≡ l
+    stored-line room = part-same s (placeOf t k v a) l (widthAt t k v) long room
 
-    pub other-line : (x b : ℕ) → (lineNumber sizes x b ≡ lineNumber sizes v a → ⊥) → lineIn sizes stored x b ≡ lineIn sizes s x b
-    unfolding lineIn
-    other-line x b n =
-        elim (decLt (lineNumber sizes x b) (lineNumber sizes v a)) [
-          | yes h ↦ part-before s (lineAt sizes v a) l (lineAt sizes x b) (width sizes) (line-before x b v a h)
-          | no h ↦
-              let later : lineNumber sizes v a < lineNumber sizes x b =
-              elim (decLt (lineNumber sizes v a) (lineNumber sizes x b)) [ yes k ↦ k | no k ↦ absurd (n (omega arith)) ] in
-              part-after s (lineAt sizes v a) l (lineAt sizes x b) (width sizes) (omega (arith, line-before v a x b later))
-        ]
+    -- a line that begins no earlier is as before
+    pub other-line : (x b : ℕ) → 0 < x → b < depth t x → placeOf t k v a ≤ placeOf t k x b → ((x ≡ v) × (b ≡ a) → ⊥)
+        → (placeOf t k v (a + 1) ≤ placeOf t k x b) × (part stored (placeOf t k x b) (widthAt t k x) ≡ part s (placeOf t k x b) (widthAt t k x))
+    other-line x b some deep later other =
+        let behind = place-after v a x b site some above deep later other in
+        (omega (arith, place-next v site a, behind), part-after s (placeOf t k v a) l (placeOf t k x b) (widthAt t k x) (omega (arith, behind)))
 
     -- the words of the nodes stay
-    pub words-stay : take (nodeWords * sizes .nodes) stored ≡ take (nodeWords * sizes .nodes) s
-    words-stay = take-sets (nodeWords * sizes .nodes) s (lineAt sizes v a) l (words-before v a)
+    pub words-stay : take (4 * t .count) stored ≡ take (4 * t .count) s
+    words-stay = take-sets (4 * t .count) s (placeOf t k v a) l (words-before v site a)
 
     -- and what stands behind the table
-    pub behind-stays : v < sizes .nodes → a ≤ sizes .height → FrontOnly (tableEnd sizes) s stored
-    behind-stays h k = record {
-      long = length-sets s (lineAt sizes v a) l;
-      rest = drop-sets (tableEnd sizes) s (lineAt sizes v a) l (omega (arith, line-within v a h k));
+    pub behind-stays : v < t .count → FrontOnly (startAt t k (t .count)) s stored
+    behind-stays h = record {
+      long = length-sets s (placeOf t k v a) l;
+      rest = drop-sets (startAt t k (t .count)) s (placeOf t k v a) l (omega (arith, place-within v site a above, start-later t k {x = v + 1} {y = t .count} (omega arith)));
     }
-
--- ---- a place in the table
-
--- the products of the layout are small
-pub rows-small : {sizes : code.Tree} {x a : ℕ} → InTable sizes x a → x * (sizes .height + 1) ≤ mostNodes * (mostDepth + 1)
-rows-small p = mul-le-mul {n₂ = mostNodes} {m₂ = mostDepth + 1} (omega (arith, p .node, p .nodes)) (omega (arith, p .height))
-
-pub place-small : {sizes : code.Tree} {x a w : ℕ} → InTable sizes x a → w ≡ width sizes
-    → lineNumber sizes x a * w ≤ (mostNodes * (mostDepth + 1) + mostDepth) * mostWidth
-place-small p e =
-    mul-le-mul {n₂ = mostNodes * (mostDepth + 1) + mostDepth} {m₂ = mostWidth} (omega (arith, rows-small p, p .above, p .height)) (omega (arith, p .budget))
-
--- the empty row has one at every depth
-pub empty-place : {sizes : code.Tree} {a b : ℕ} → InTable sizes 0 b → a ≤ sizes .height → InTable sizes 0 a
-empty-place p h = record { nodes = p .nodes; budget = p .budget; height = p .height; node = p .node; above = h }

@@ -1,85 +1,98 @@
 -- What holds of the scratch of an accepted file: the places of its lines, the words of its nodes, and that a line stored keeps both.
-use mathlib.Core.Path.{_≡_, sym, ap}
+use mathlib.Core.Path.{_≡_, refl, sym, ap, ap₂}
 use mathlib.Core.List.{List}
-use Prim.Native.Nat.{ℕ, _*_, _≤_, _<_}
+use Prim.Native.Nat.{ℕ, zero, suc, _+_, _*_, _≤_, _<_}
 use native.Mathlib.Omega.{arith}
-use lib.ListN.{length, take}
-use Rattle.model.specs.File.{treeOf, demandOf, countOf}
-use Rattle.model.specs.Tree.{depth, height, distance}
+use lib.ListN.{length, take, getD}
+use Rattle.model.specs.File.{treeOf, demandOf, countOf, budgetOf}
+use Rattle.model.specs.Tree.{depth, distance}
 use Rattle.model.specs.Rules.{scratchWords}
 use Rattle.model.specs.Accepted.{Sound}
-use Rattle.model.proofs.Accepted.{accepted-header, accepted-sound}
-use Rattle.model.proofs.Bounds.{height-bound}
-use Rattle.model.proofs.Depths.{depth-within-height}
-use Rattle.fields.specs.declared.Tree as code
+use Rattle.model.proofs.Accepted.{accepted-sound}
 use Rattle.node_words.specs.Words.{nodeWords, HasNode, NodeRoom}
-use Rattle.node_words.specs.RowNodes.{FileWords}
 use Rattle.node_words.proofs.Words.{node-words-same}
-use Rattle.table.specs.Table.{tableEnd, InTable, TableRoom, NodeWordsStored, Client}
+use Rattle.best_rows.proofs.Table.{row-size-none}
+use Rattle.places.specs.Places.{widthAt, startAt}
+use Rattle.places.proofs.Places.{start-first, start-later, words-are-end}
+use Rattle.table.specs.Table.{lineAt, InTable, placeOf, TableRoom, NodeWordsStored, Client}
+use Rattle.table.proofs.Places.{place-within}
 
-module _ {file : List ℕ} {sizes : code.Tree} {s : List ℕ} (r : TableRoom file sizes s) where
+-- the empty row's line has one entry
+pub width-none : (file : List ℕ) → widthAt (treeOf file) (budgetOf file) 0 ≡ 1
+unfolding widthAt
+width-none file = omega (arith, row-size-none (treeOf file))
+
+module _ {file starts widths s : List ℕ} (r : TableRoom file starts widths s) where
   pub room-sound : Sound (treeOf file) (demandOf file)
   room-sound = accepted-sound file (r .accepted)
 
-  pub room-count : sizes .nodes ≡ countOf file
-  room-count = ap (λ z. z .nodes) (r .of-file)
-
-  room-height : sizes .height ≡ height (treeOf file)
-  room-height = ap (λ z. z .height) (r .of-file)
-
-  pub in-tree : {v : ℕ} → v < sizes .nodes → v < countOf file
-  in-tree h = omega (arith, room-count)
-
   -- the scratch that rule 13 asks for ends with the table
-  pub room-end : scratchWords file ≡ tableEnd sizes
-  unfolding scratchWords tableEnd
-  room-end = rw (r .of-file) (omega arith)
+  pub room-end : startAt (treeOf file) (budgetOf file) (countOf file) ≡ scratchWords file
+  room-end = words-are-end file (r .accepted)
 
-  pub room-long : tableEnd sizes ≤ length s
-  room-long = omega (arith, room-end, r .room)
+  pub room-nodes : NodeRoom file (countOf file) s
+  room-nodes = record {
+    accepted = r .accepted;
+    count = refl;
+    room =
+        omega (
+          arith,
+          r .room,
+          room-end,
+          start-first (treeOf file) (budgetOf file),
+          start-later (treeOf file) (budgetOf file) {x = 1} {y = countOf file} (omega (arith, room-sound .some)),
+        );
+  }
 
-  pub room-place : {x a : ℕ} → x < sizes .nodes → a ≤ sizes .height → InTable sizes x a
-  room-place h k =
-      let head = accepted-header file (r .accepted) in
-      record {
-        nodes = omega (arith, head .few, room-count);
-        budget = rw (r .of-file) (head .budget);
-        height = omega (arith, room-height, height-bound (treeOf file) (demandOf file) room-sound);
-        node = h;
-        above = k;
-      }
+  pub room-kept : {l : List ℕ} → length l ≡ length s → TableRoom file starts widths l
+  room-kept e = record { accepted = r .accepted; places = r .places; room = omega (arith, r .room) }
 
-  pub room-depth : {v : ℕ} → v < sizes .nodes → depth (treeOf file) v ≤ sizes .height
-  room-depth {v} h = omega (arith, depth-within-height (treeOf file) v (omega (arith, room-count)), room-height)
+  -- ---- the places noted
 
-  pub room-nodes : NodeRoom file (sizes .nodes) s
-  unfolding tableEnd
-  room-nodes = record { accepted = r .accepted; count = room-count; room = omega (arith, room-long) }
+  module _ (x : ℕ) (node : x < countOf file) where
+    pub room-width : getD widths x 0 ≡ widthAt (treeOf file) (budgetOf file) x
+    room-width = r .places .width x node
 
-  pub room-kept : {l : List ℕ} → length l ≡ length s → TableRoom file sizes l
-  room-kept e = record { accepted = r .accepted; of-file = r .of-file; room = omega (arith, r .room) }
+    pub room-noted : (x < length starts) × (x < length widths)
+    room-noted = (omega (arith, r .places .long .0), omega (arith, r .places .long .1))
 
-module _ {file : List ℕ} {sizes : code.Tree} {s : List ℕ} (r : NodeWordsStored file sizes s) where
-  pub stored-node : {x : ℕ} → x < sizes .nodes → HasNode s x
+  pub room-line : (x a : ℕ) → x < countOf file → lineAt starts widths x a ≡ placeOf (treeOf file) (budgetOf file) x a
+  unfolding lineAt placeOf
+  room-line zero a h = refl
+  room-line (suc x) a h = ap₂ (λ (start width : ℕ). start + a * width) (r .places .start (suc x) (omega arith) h) (r .places .width (suc x) h)
+
+  -- the line of a node is inside
+  pub room-fits : {v a : ℕ} → 0 < v → v < countOf file → a < depth (treeOf file) v
+      → placeOf (treeOf file) (budgetOf file) v a + widthAt (treeOf file) (budgetOf file) v ≤ length s
+  room-fits {v} {a} site h above =
+      omega (
+        arith,
+        place-within (treeOf file) (budgetOf file) v site a above,
+        start-later (treeOf file) (budgetOf file) {x = v + 1} {y = countOf file} (omega arith),
+        room-end,
+        r .room,
+      )
+
+  pub room-place : (x a : ℕ) → x < countOf file → (0 < x → a < depth (treeOf file) x) → InTable starts widths s x a
+  unfolding placeOf
+  room-place zero a h above = record {
+    noted = room-noted zero h;
+    inside = omega (arith, room-line zero a h, room-width zero h, width-none file, room-nodes .room);
+  }
+  room-place (suc x) a h above = record {
+    noted = room-noted (suc x) h;
+    inside = omega (arith, room-line (suc x) a h, room-width (suc x) h, room-fits {v = suc x} {a = a} (omega arith) h (above (omega arith)));
+  }
+
+module _ {file starts widths s : List ℕ} (r : NodeWordsStored file starts widths s) where
+  pub stored-node : {x : ℕ} → x < countOf file → HasNode s x
   stored-node h = omega (arith, room-nodes (r .room) .room)
 
-  pub stored-words : FileWords file (sizes .nodes) s
-  stored-words = record { nodes = room-nodes (r .room); stand = r .words }
-
   -- a node and one that can serve it
-  pub stored-client : {v u : ℕ} → v < sizes .nodes → u ≤ v → distance (treeOf file) u ≤ distance (treeOf file) v → Client file s v u
-  stored-client h k near =
-      let count = room-count (r .room) in
-      record {
-        nodes = rw (← count) (room-nodes (r .room));
-        words = r .words;
-        node = omega (arith, count);
-        serving = omega (arith, count);
-        nearer = near;
-      }
+  pub stored-client : {v u : ℕ} → v < countOf file → u ≤ v → distance (treeOf file) u ≤ distance (treeOf file) v → Client file s v u
+  stored-client h k near = record { nodes = room-nodes (r .room); words = r .words; node = h; serving = omega arith; nearer = near }
 
 -- the words stand in another list of the same length whose front is the same
-pub stored-same : {file : List ℕ} {sizes : code.Tree} {s l : List ℕ} → length l ≡ length s
-    → take (nodeWords * sizes .nodes) l ≡ take (nodeWords * sizes .nodes) s → NodeWordsStored file sizes s → NodeWordsStored file sizes l
-stored-same {file} {sizes} {s} {l} e f r =
-    record { room = room-kept (r .room) e; words = node-words-same (treeOf file) s l (rw (← (room-count (r .room))) (sym f)) (r .words) }
+pub stored-same : {file starts widths s l : List ℕ} → length l ≡ length s
+    → take (nodeWords * countOf file) l ≡ take (nodeWords * countOf file) s → NodeWordsStored file starts widths s → NodeWordsStored file starts widths l
+stored-same {file} {s = s} {l = l} e f r = record { room = room-kept (r .room) e; words = node-words-same (treeOf file) s l (sym f) (r .words) }

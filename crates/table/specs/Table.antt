@@ -2,95 +2,82 @@
 use mathlib.Core.Path.{_≡_}
 use mathlib.Core.Bool.{Bool, cond}
 use mathlib.Core.List.{List, map}
-use mathlib.Core.Logic.{_⊎_}
-use Prim.Native.Nat.{ℕ, _+_, _*_, _≤_, _<_}
-use lib.ListN.{length, take}
+use Prim.Native.Nat.{ℕ, zero, suc, _+_, _*_, _≤_, _<_}
+use lib.ListN.{length, getD}
+use lib.Seq.{sets}
 use Rattle.laws.specs.Lists.{range, part}
 use Rattle.laws.specs.Fronts.{FrontOnly}
-use Rattle.model.specs.File.{Tree, Demand, mostNodes, mostBudget, mostDepth, countOf, treeOf, demandOf}
+use Rattle.model.specs.File.{Tree, Demand, countOf, budgetOf, treeOf, demandOf}
 use Rattle.model.specs.Tree.{depth, distance}
 use Rattle.model.specs.Rules.{passed, fileVerdict, scratchWords}
-use Rattle.fields.specs.declared.Tree as code
-use Rattle.tree_file.specs.Checks.{sizesOf}
 use Rattle.model.specs.Bill.{price}
 use Rattle.best_rows.specs.Best.{cap}
+use Rattle.best_rows.specs.Guarded.{mayBe}
 use Rattle.best_rows.specs.BestAt.{bestAt}
-use Rattle.node_words.specs.Words.{nodeWords, NodeRoom, NodeWords}
+use Rattle.node_words.specs.Words.{wordOf, childWord, siblingWord, NodeRoom, NodeWords}
 use Rattle.node_words.specs.Ancestors.{ancestorAt}
-use Rattle.lines.specs.Line.{emptyBest}
+use Rattle.places.specs.Places.{widthAt, startAt, Places}
 
 -- ---- the layout
 
--- a line has an entry for each number of caches from 0 to k
-abbrev pub width : code.Tree → ℕ
-width sizes = sizes .budget + 1
-
--- each node has a line for each depth of a serving node, from 0 to h
-abbrev pub lineNumber : code.Tree → ℕ → ℕ → ℕ
-lineNumber sizes x a = x * (sizes .height + 1) + a
-
--- the index of the first entry of the line of node x with a serving node at depth a
-unfoldable pub lineAt : code.Tree → ℕ → ℕ → ℕ
-lineAt sizes x a = nodeWords * sizes .nodes + lineNumber sizes x a * width sizes
-
--- the index behind the last line
-unfoldable pub tableEnd : code.Tree → ℕ
-tableEnd sizes = nodeWords * sizes .nodes + sizes .nodes * (sizes .height + 1) * width sizes
-
--- node x and depth a have a line in the table, and n, k and h are within the limits of a tree file
-pub record InTable (sizes : code.Tree) (x a : ℕ) : Type 0 where
-  pub nodes : sizes .nodes ≤ mostNodes
-  pub budget : sizes .budget ≤ mostBudget
-  pub height : sizes .height ≤ mostDepth
-  pub node : x < sizes .nodes
-  pub above : a ≤ sizes .height
+-- the index of the first entry of the line of node x with a serving node at depth a, from the places noted. Node 0 stands for the
+-- empty row: its line is word 0, the server's distance, which is 0.
+unfoldable pub lineAt : List ℕ → List ℕ → ℕ → ℕ → ℕ
+lineAt starts widths zero a = 0
+lineAt starts widths (suc x) a = getD starts (suc x) 0 + a * getD widths (suc x) 0
 
 -- the line that is stored there
-unfoldable pub lineIn : code.Tree → List ℕ → ℕ → ℕ → List ℕ
-lineIn sizes s x a = part s (lineAt sizes x a) (width sizes)
+unfoldable pub lineIn : List ℕ → List ℕ → List ℕ → ℕ → ℕ → List ℕ
+lineIn starts widths s x a = part s (lineAt starts widths x a) (getD widths x 0)
+
+-- node x has places, and its line for depth a is in the scratch
+pub record InTable (starts widths s : List ℕ) (x a : ℕ) : Type 0 where
+  pub noted : (x < length starts) × (x < length widths)
+  pub inside : lineAt starts widths x a + getD widths x 0 ≤ length s
+
+-- the same index, from the tree
+unfoldable pub placeOf : Tree → ℕ → ℕ → ℕ → ℕ
+placeOf t k zero a = 0
+placeOf t k (suc x) a = startAt t k (suc x) + a * widthAt t k (suc x)
 
 -- ---- what the lines hold
 
--- for each number of caches the least cost of the row that begins with x, where x's ancestor at depth a is the serving node
--- and `allows` says what a node may be. Node 0 stands for the empty row.
+-- for each number of caches that the row can have the least cost of the row that begins with x, where x's ancestor at depth a is
+-- the serving node and `allows` says what a node may be
 unfoldable pub lineFor : Tree → Demand → (ℕ → Bool → Bool) → ℕ → ℕ → ℕ → List ℕ
-lineFor t d allows w x a = map (bestAt t d allows x (ancestorAt t x a)) (range 0 w)
+lineFor t d allows k x a = map (bestAt t d allows x (ancestorAt t x a)) (range 0 (widthAt t k x))
 
--- the empty row has a line for every depth, a node for the depths above its own
-abbrev pub HasLine : Tree → ℕ → ℕ → Type 0
-HasLine t x a = (x ≡ 0) ⊎ (a < depth t x)
-
--- the lines from number i on, and those of the empty row, hold their least costs
-unfoldable pub FilledFrom : Tree → Demand → (ℕ → Bool → Bool) → code.Tree → List ℕ → ℕ → Type 0
-FilledFrom t d allows sizes s i =
-    (x a : ℕ) → x < sizes .nodes → a ≤ sizes .height → HasLine t x a → (x ≡ 0) ⊎ (i ≤ lineNumber sizes x a)
-    → lineIn sizes s x a ≡ lineFor t d allows (width sizes) x a
+-- the lines from index i on hold their least costs
+unfoldable pub FilledFrom : Tree → Demand → (ℕ → Bool → Bool) → ℕ → List ℕ → ℕ → Type 0
+FilledFrom t d allows k s i =
+    (x a : ℕ) → 0 < x → x < t .count → a < depth t x → i ≤ placeOf t k x a
+    → part s (placeOf t k x a) (widthAt t k x) ≡ lineFor t d allows k x a
 
 -- ---- the scratch of an accepted file
 
--- it has room for the words and the lines
-pub record TableRoom (file : List ℕ) (sizes : code.Tree) (s : List ℕ) : Type 0 where
+-- the places of its lines are noted, and the scratch has room for the words and the lines
+pub record TableRoom (file starts widths s : List ℕ) : Type 0 where
   pub accepted : fileVerdict file ≡ passed
-  pub of-file : sizes ≡ sizesOf file
+  pub places : Places (treeOf file) (budgetOf file) starts widths
   pub room : scratchWords file ≤ length s
 
 -- and the words of the nodes are stored
-pub record NodeWordsStored (file : List ℕ) (sizes : code.Tree) (s : List ℕ) : Type 0 where
-  pub room : TableRoom file sizes s
+pub record NodeWordsStored (file starts widths s : List ℕ) : Type 0 where
+  pub room : TableRoom file starts widths s
   pub words : NodeWords (treeOf file) s
 
--- and the lines from number i on
-pub record TableFrom (file : List ℕ) (allows : ℕ → Bool → Bool) (sizes : code.Tree) (s : List ℕ) (i : ℕ) : Type 0 where
-  pub stored : NodeWordsStored file sizes s
-  pub lines : FilledFrom (treeOf file) (demandOf file) allows sizes s i
+-- and the lines from index i on
+pub record TableFrom (file : List ℕ) (allows : ℕ → Bool → Bool) (starts widths s : List ℕ) (i : ℕ) : Type 0 where
+  pub stored : NodeWordsStored file starts widths s
+  pub lines : FilledFrom (treeOf file) (demandOf file) allows (budgetOf file) s i
 
 -- all of them
-abbrev pub Table : List ℕ → (ℕ → Bool → Bool) → code.Tree → List ℕ → Type 0
-Table file allows sizes s = TableFrom file allows sizes s 0
+abbrev pub Table : List ℕ → (ℕ → Bool → Bool) → List ℕ → List ℕ → List ℕ → Type 0
+Table file allows starts widths s = TableFrom file allows starts widths s 0
 
--- the lines from number i on have been stored; what is behind the table and the length are as before
-pub record LinesFilled (file : List ℕ) (allows : ℕ → Bool → Bool) (sizes : code.Tree) (i : ℕ) (old new : List ℕ) : Type 0 where
-  pub table : TableFrom file allows sizes new i
+-- the lines from index i on have been stored; what is behind the table and the length are as before
+pub record LinesFilled (file : List ℕ) (allows : ℕ → Bool → Bool) (starts widths : List ℕ) (i : ℕ) (old new : List ℕ) : Type 0 where
+  pub table : TableFrom file allows starts widths new i
   pub front : FrontOnly (scratchWords file) old new
 
 -- ---- at a node
@@ -114,10 +101,22 @@ pub record Client (file s : List ℕ) (v u : ℕ) : Type 0 where
   pub serving : u < countOf file
   pub nearer : distance (treeOf file) u ≤ distance (treeOf file) v
 
--- ---- while the table is being filled
+-- ---- one line
 
--- the empty row's lines for the depths below i have been stored; the words of the nodes are as before
-pub record EmptyTo (sizes : code.Tree) (i : ℕ) (old new : List ℕ) : Type 0 where
-  pub lines : (a : ℕ) → a < i → lineIn sizes new 0 a ≡ map emptyBest (range 0 (width sizes))
-  pub words : take (nodeWords * sizes .nodes) new ≡ take (nodeWords * sizes .nodes) old
-  pub front : FrontOnly (tableEnd sizes) old new
+-- what the line of node v with its ancestor u at depth a as the serving node is made from: the table from the next line on, and
+-- what v pays as a cache and as none
+pub record LineToFill (file starts widths s : List ℕ) (v a u member other : ℕ) : Type 0 where
+  pub table : TableFrom file (mayBe (treeOf file)) starts widths s (placeOf (treeOf file) (budgetOf file) v (a + 1))
+  pub served : Served (treeOf file) v a u
+  pub pays-itself : member ≡ asCache (treeOf file) (demandOf file) v
+  pub pays-above : other ≡ price (treeOf file) (demandOf file) v u
+
+-- v's first child and next sibling
+abbrev pub ChildAndSibling : List ℕ → ℕ → ℕ → ℕ → Type 0
+ChildAndSibling s v child sibling = (child ≡ wordOf s v childWord) × (sibling ≡ wordOf s v siblingWord)
+
+-- s with that line stored in its place
+abbrev pub withLine : List ℕ → List ℕ → ℕ → ℕ → List ℕ
+withLine file s v a =
+    let t = treeOf file in
+    sets s (placeOf t (budgetOf file) v a) (lineFor t (demandOf file) (mayBe t) (budgetOf file) v a)

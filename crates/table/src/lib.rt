@@ -1,47 +1,62 @@
 // The plan's table in the scratch, behind the words of the nodes: a line for each node and each depth of a serving node above it,
 // filled from the last node to the first.
 ghost use mathlib.Core.Path.{_≡_};
-ghost use Prim.Native.Nat.{_+_, _*_, _≤_, _<_, _^_};
-ghost use lib.ListN.{length};
-ghost use lib.Seq.{sets};
-ghost use Rattle.model.specs.File.{recordLength, treeOf, demandOf};
+ghost use Prim.Native.Nat.{_+_, _*_, _≤_, _<_, _^_, min};
+ghost use lib.ListN.{length, getD};
+ghost use Rattle.model.specs.File.{recordLength, countOf, budgetOf, treeOf, demandOf};
 ghost use Rattle.model.specs.Bill.{cachable, price};
 ghost use Rattle.model.specs.Situations.{firstSituation, costIn};
 ghost use Rattle.best_rows.specs.Guarded.{mayBe};
-ghost use Rattle.node_words.specs.RowNodes.{RowNodes};
-ghost use Rattle.lines.specs.Line.{mostWidth};
-ghost use Rattle.table.specs.Table.{width, lineNumber, lineAt, tableEnd, InTable, lineIn, lineFor, TableRoom, NodeWordsStored, LinesFilled, TableFrom, asCache, Served, Client, EmptyTo};
+ghost use Rattle.places.specs.Places.{startAt};
+ghost use Rattle.table.specs.Table.{lineAt, InTable, lineIn, TableRoom, NodeWordsStored, LinesFilled, TableFrom, asCache, Client, LineToFill, ChildAndSibling, withLine};
 ghost use Rattle.table.specs.Situations.{situationOf};
 use units::Distance;
 use units::Flow;
 use units::Total;
 
-// ---- the layout of the table, in these three functions only
+// ---- where a line is in the scratch: entry x of `starts` says where the lines of node x begin, entry x of `widths` how many
+// entries each has
 
-// How many entries a line has.
-fn width(tree: fields::Tree) -> usize
-    requires { ⌜ tree .budget < mostWidth ⌝ }
-    ensures { λ r. ⌜ r ≡ width tree ⌝ }
+// A start, and a width, as numbers to reckon with.
+fn index(start: u32) -> usize
+    ensures { λ r. ⌜ r ≡ start ⌝ }
 {
-    tree.budget + 1
+    start as usize
 }
 
-// The index of the first entry of the line of node x with a serving node at depth a.
-fn line_at(tree: fields::Tree, x: usize, a: usize) -> usize
-    requires { ⌜ InTable tree x a ⌝ }
-    ensures { λ r. ⌜ r ≡ lineAt tree x a ⌝ }
+fn count(width: u16) -> usize
+    ensures { λ r. ⌜ r ≡ width ⌝ }
 {
-    node_words::NODE_WORDS * tree.nodes + (x * (tree.height + 1) + a) * width(tree)
+    width as usize
 }
 
-// The line of node x with a serving node at depth a. Node 0 stands for the empty row.
-pub fn line<'a>(s: &'a [u64], tree: fields::Tree, x: usize, a: usize) -> &'a [u64]
-    requires { ⌜ InTable tree x a ⌝ }
-    requires { ⌜ tableEnd tree ≤ length (now s) ⌝ }
-    ensures { λ r. ⌜ now r ≡ lineIn tree (now (s .entry)) x a ⌝ }
+// How many entries a line of node x has.
+fn width_of(widths: &[u16], x: usize) -> usize
+    requires { ⌜ x < length (now widths) ⌝ }
+    ensures { λ r. ⌜ r ≡ getD (now (widths .entry)) x 0 ⌝ }
 {
-    let start = line_at(tree, x, a);
-    &s[start..start + width(tree)]
+    count(widths[x])
+}
+
+// The index of the first entry of the line of node x with a serving node at depth a. Node 0 stands for the empty row: its line is
+// word 0, the server's distance, which is 0.
+fn line_at(starts: &[u32], widths: &[u16], x: usize, a: usize) -> usize
+    requires { ⌜ (x < length (now starts)) × (x < length (now widths)) × (lineAt (now starts) (now widths) x a < 2 ^ 64) ⌝ }
+    ensures { λ r. ⌜ r ≡ lineAt (now (starts .entry)) (now (widths .entry)) x a ⌝ }
+{
+    if x == 0 {
+        return 0;
+    }
+    index(starts[x]) + a * width_of(widths, x)
+}
+
+// The line of node x with a serving node at depth a.
+pub fn line<'a>(s: &'a [u64], starts: &[u32], widths: &[u16], x: usize, a: usize) -> &'a [u64]
+    requires { ⌜ InTable (now starts) (now widths) (now s) x a ⌝ }
+    ensures { λ r. ⌜ now r ≡ lineIn (now (starts .entry)) (now (widths .entry)) (now (s .entry)) x a ⌝ }
+{
+    let start = line_at(starts, widths, x, a);
+    &s[start..start + width_of(widths, x)]
 }
 
 // ---- a node's own cost
@@ -120,66 +135,151 @@ pub fn pays_itself(file: &[u8], size: usize, part: Flow, s: &[u64], v: usize) ->
 
 // ---- one line
 
-// Stores the line of node v with its ancestor u at depth a as the serving node, from the lines of v's children (served by v, and
-// by u) and of its later siblings (served by u). As a cache v itself pays `member`, else `other`. Entry x of `counts` is how many
-// nodes the row that begins with x has. The line is made in place, from local copies, because `rest` is in s too. `file` and `u`
-// serve the contract alone.
+// How many entries the line of a node and its children has, where the children's has `children` and the row's w.
+fn own_end(w: usize, children: usize) -> usize
+    requires { ⌜ children + 1 < 2 ^ 64 ⌝ }
+    ensures { λ r. ⌜ r ≡ min w (children + 1) ⌝ }
+{
+    if children + 1 < w { children + 1 } else { w }
+}
+
+// The three functions below store the line of node v with its ancestor u at depth a as the serving node, from the lines of v's
+// children (served by v, and by u) and of its later siblings (served by u). As a cache v itself pays `member`, else `other`.
+// `file` and `u` serve the contracts alone.
+
+// Where v has no later siblings: the row's line is that of v and its children.
+fn fill_last(
+    file: &[u8],
+    s: &mut [u64],
+    starts: &[u32],
+    widths: &[u16],
+    v: usize,
+    a: usize,
+    u: usize,
+    child: usize,
+    member: Total,
+    other: Total,
+)
+    requires { ⌜ LineToFill (now file) (now starts) (now widths) (now s) v a u (member .0) (other .0) ⌝ }
+    requires { ⌜ ChildAndSibling (now s) v child 0 ⌝ }
+    ensures { λ _. ⌜ now (s .exit) ≡ withLine (now (file .entry)) (now (s .entry)) v a ⌝ }
+{
+    let depth = node_words::depth_word(s, v);
+    let start = line_at(starts, widths, v, a);
+    let cached = line_at(starts, widths, child, depth);
+    let uncached = line_at(starts, widths, child, a);
+    let w = width_of(widths, v);
+    let children = width_of(widths, child);
+    lines::own_line_at(s, start, w, cached, uncached, children, member, other);
+}
+
+// Where v has no children: u serves the later siblings whether v is a cache or not, so their line takes the place of both lines of
+// children.
+fn fill_leaf(
+    file: &[u8],
+    s: &mut [u64],
+    starts: &[u32],
+    widths: &[u16],
+    v: usize,
+    a: usize,
+    u: usize,
+    sibling: usize,
+    member: Total,
+    other: Total,
+)
+    requires { ⌜ LineToFill (now file) (now starts) (now widths) (now s) v a u (member .0) (other .0) ⌝ }
+    requires { ⌜ ChildAndSibling (now s) v 0 sibling ⌝ }
+    ensures { λ _. ⌜ now (s .exit) ≡ withLine (now (file .entry)) (now (s .entry)) v a ⌝ }
+{
+    let start = line_at(starts, widths, v, a);
+    let rest = line_at(starts, widths, sibling, a);
+    let w = width_of(widths, v);
+    let others = width_of(widths, sibling);
+    lines::own_line_at(s, start, w, rest, rest, others, member, other);
+}
+
+// In general. The line of v and its children is made in local memory and the siblings' line is copied there, because s cannot be
+// read while a part of it is written.
+fn fill_joined(
+    file: &[u8],
+    s: &mut [u64],
+    starts: &[u32],
+    widths: &[u16],
+    v: usize,
+    a: usize,
+    u: usize,
+    child: usize,
+    sibling: usize,
+    member: Total,
+    other: Total,
+)
+    requires { ⌜ LineToFill (now file) (now starts) (now widths) (now s) v a u (member .0) (other .0) ⌝ }
+    requires { ⌜ ChildAndSibling (now s) v child sibling ⌝ }
+    ensures { λ _. ⌜ now (s .exit) ≡ withLine (now (file .entry)) (now (s .entry)) v a ⌝ }
+{
+    let old = &s[..];
+    let depth = node_words::depth_word(old, v);
+    let cached = line(old, starts, widths, child, depth);
+    let uncached = line(old, starts, widths, child, a);
+    let rest = line(old, starts, widths, sibling, a);
+    let w = width_of(widths, v);
+    let own = own_end(w, cached.len());
+    let others = rest.len();
+    let mut node = [0; lines::WIDTH];
+    lines::own_line(&mut node, cached, uncached, member, other, own);
+    let mut copied = [0; lines::WIDTH];
+    lines::copy(&mut copied, rest);
+    let start = line_at(starts, widths, v, a);
+    lines::row_line(&mut s[start..start + w], &node, own, &copied, others);
+}
+
+// Stores the line of node v with its ancestor u at depth a as the serving node.
 fn fill_one(
     file: &[u8],
-    tree: fields::Tree,
     s: &mut [u64],
-    counts: &[usize],
+    starts: &[u32],
+    widths: &[u16],
     v: usize,
     a: usize,
     u: usize,
     member: Total,
     other: Total,
 )
-    requires { ⌜ TableFrom (now file) (mayBe (treeOf (now file))) tree (now s) (lineNumber tree v a + 1) ⌝ }
-    requires { ⌜ RowNodes (treeOf (now file)) (now counts) ⌝ }
-    requires { ⌜ Served (treeOf (now file)) v a u ⌝ }
-    requires { ⌜ (member .0 ≡ asCache (treeOf (now file)) (demandOf (now file)) v) × (other .0 ≡ price (treeOf (now file)) (demandOf (now file)) v u) ⌝ }
-    ensures { λ _. ⌜ now (s .exit) ≡ sets (now (s .entry)) (lineAt tree v a) (lineFor (treeOf (now (file .entry))) (demandOf (now (file .entry))) (mayBe (treeOf (now (file .entry)))) (width tree) v a) ⌝ }
+    requires { ⌜ LineToFill (now file) (now starts) (now widths) (now s) v a u (member .0) (other .0) ⌝ }
+    ensures { λ _. ⌜ now (s .exit) ≡ withLine (now (file .entry)) (now (s .entry)) v a ⌝ }
 {
-    let old = &s[..];
-    let child = node_words::child_of(old, v);
-    let sibling = node_words::sibling_of(old, v);
-    let depth = node_words::depth_word(old, v);
-    let cached = line(old, tree, child, depth);
-    let uncached = line(old, tree, child, a);
-    let rest = line(old, tree, sibling, a);
-    let below = counts[child];
-    let after = counts[sibling];
-    let w = width(tree);
-    let mut node = [Total::CAP.0; lines::WIDTH];
-    lines::own_line(&mut node, cached, uncached, member, other, w, below);
-    let mut others = [Total::CAP.0; lines::WIDTH];
-    lines::rest_line(&mut others, rest, w, after);
-    let start = line_at(tree, v, a);
-    lines::row_line(&mut s[start..start + w], &node, &others, w, below, after);
+    let child = node_words::child_of(s, v);
+    let sibling = node_words::sibling_of(s, v);
+    if sibling == 0 {
+        fill_last(file, s, starts, widths, v, a, u, child, member, other);
+        return;
+    }
+    if child == 0 {
+        fill_leaf(file, s, starts, widths, v, a, u, sibling, member, other);
+        return;
+    }
+    fill_joined(
+        file,
+        s,
+        starts,
+        widths,
+        v,
+        a,
+        u,
+        child,
+        sibling,
+        member,
+        other,
+    );
 }
 
 // ---- the table
 
-// Stores the lines of the empty row.
-fn fill_empty(tree: fields::Tree, s: &mut [u64])
-    requires { ⌜ InTable tree 0 0 ⌝ }
-    requires { ⌜ tableEnd tree ≤ length (now s) ⌝ }
-    ensures { λ _. ⌜ EmptyTo tree (tree .height + 1) (now (s .entry)) (now (s .exit)) ⌝ }
-{
-    let mut a = 0;
-    while a <= tree.height {
-        lines::empty_line(s, line_at(tree, 0, a), width(tree));
-        a += 1;
-    }
-}
-
 // Stores the lines of node v, for each node above it as the serving node, from its parent up to the server.
-fn fill_node(file: &[u8], tree: fields::Tree, s: &mut [u64], counts: &[usize], v: usize)
-    requires { ⌜ (0 < v) × (v < tree .nodes) ⌝ }
-    requires { ⌜ TableFrom (now file) (mayBe (treeOf (now file))) tree (now s) (lineNumber tree (v + 1) 0) ⌝ }
-    requires { ⌜ RowNodes (treeOf (now file)) (now counts) ⌝ }
-    ensures { λ _. ⌜ LinesFilled (now (file .entry)) (mayBe (treeOf (now (file .entry)))) tree (lineNumber tree v 0) (now (s .entry)) (now (s .exit)) ⌝ }
+fn fill_node(file: &[u8], s: &mut [u64], starts: &[u32], widths: &[u16], v: usize)
+    requires { ⌜ (0 < v) × (v < countOf (now file)) ⌝ }
+    requires { ⌜ TableFrom (now file) (mayBe (treeOf (now file))) (now starts) (now widths) (now s) (startAt (treeOf (now file)) (budgetOf (now file)) (v + 1)) ⌝ }
+    ensures { λ _. ⌜ LinesFilled (now (file .entry)) (mayBe (treeOf (now (file .entry)))) (now (starts .entry)) (now (widths .entry)) (startAt (treeOf (now (file .entry))) (budgetOf (now (file .entry))) v) (now (s .entry)) (now (s .exit)) ⌝ }
 {
     let size = fields::record_length(file);
     let part = fields::cachable_in(file, size, v);
@@ -190,31 +290,29 @@ fn fill_node(file: &[u8], tree: fields::Tree, s: &mut [u64], counts: &[usize], v
         a -= 1;
         u = fields::parent_in(file, size, u);
         let other = pays(file, size, part, s, v, u);
-        fill_one(file, tree, s, counts, v, a, u, member, other);
+        fill_one(file, s, starts, widths, v, a, u, member, other);
     }
 }
 
 // Stores all lines, from the last node's to the first's: the lines of children and later siblings are there when they are needed.
-fn fill_table(file: &[u8], tree: fields::Tree, s: &mut [u64], counts: &[usize])
-    requires { ⌜ NodeWordsStored (now file) tree (now s) ⌝ }
-    requires { ⌜ RowNodes (treeOf (now file)) (now counts) ⌝ }
-    ensures { λ _. ⌜ LinesFilled (now (file .entry)) (mayBe (treeOf (now (file .entry)))) tree 0 (now (s .entry)) (now (s .exit)) ⌝ }
+fn fill_table(file: &[u8], n: usize, s: &mut [u64], starts: &[u32], widths: &[u16])
+    requires { ⌜ n ≡ countOf (now file) ⌝ }
+    requires { ⌜ NodeWordsStored (now file) (now starts) (now widths) (now s) ⌝ }
+    ensures { λ _. ⌜ LinesFilled (now (file .entry)) (mayBe (treeOf (now (file .entry)))) (now (starts .entry)) (now (widths .entry)) 0 (now (s .entry)) (now (s .exit)) ⌝ }
 {
-    fill_empty(tree, s);
-    let mut v = tree.nodes;
+    let mut v = n;
     while 1 < v {
         v -= 1;
-        fill_node(file, tree, s, counts, v);
+        fill_node(file, s, starts, widths, v);
     }
 }
 
 // Stores the words of the nodes and all lines of the plan's table, and changes nothing behind them.
-pub fn make_table(file: &[u8], tree: fields::Tree, s: &mut [u64])
-    requires { ⌜ TableRoom (now file) tree (now s) ⌝ }
-    ensures { λ _. ⌜ LinesFilled (now (file .entry)) (mayBe (treeOf (now (file .entry)))) tree 0 (now (s .entry)) (now (s .exit)) ⌝ }
+pub fn make_table(file: &[u8], n: usize, s: &mut [u64], starts: &[u32], widths: &[u16])
+    requires { ⌜ n ≡ countOf (now file) ⌝ }
+    requires { ⌜ TableRoom (now file) (now starts) (now widths) (now s) ⌝ }
+    ensures { λ _. ⌜ LinesFilled (now (file .entry)) (mayBe (treeOf (now (file .entry)))) (now (starts .entry)) (now (widths .entry)) 0 (now (s .entry)) (now (s .exit)) ⌝ }
 {
-    node_words::note_nodes(file, tree.nodes, s);
-    let mut counts = [0usize; fields::Tree::NODES];
-    node_words::row_nodes(s, tree.nodes, &mut counts);
-    fill_table(file, tree, s, &counts);
+    node_words::note_nodes(file, n, s);
+    fill_table(file, n, s, starts, widths);
 }

@@ -8,12 +8,14 @@ use native.Mathlib.Omega.{arith}
 use lib.ListN.{length}
 use Rattle.laws.specs.Lists.{range, greatest}
 use Rattle.laws.proofs.Lists.{greatest-snoc}
-use Rattle.model.specs.File.{treeOf, countOf, headerLength, mostNodes}
+use Rattle.model.specs.File.{treeOf, demandOf, countOf, headerLength, mostNodes}
 use Rattle.model.specs.Tree.{depth, height}
 use Rattle.model.specs.Rules.{passed, fileVerdict}
 use Rattle.model.proofs.Accepted.{record-before, accepted-header, accepted-sound}
+use Rattle.model.proofs.Bounds.{height-bound}
 use Rattle.fields.specs.Table.{InFile}
-use Rattle.tree_file.specs.Checks.{Climbable}
+use Rattle.fields.specs.declared.Tree as code
+use Rattle.tree_file.specs.Checks.{AcceptedSizes, SizesHold, Climbable}
 
 module _ (file : List ℕ) (ok : fileVerdict file ≡ passed) where
   pub accepted-long : headerLength ≤ length file
@@ -27,6 +29,17 @@ module _ (file : List ℕ) (ok : fileVerdict file ≡ passed) where
   pub accepted-climbable : (v : ℕ) → v < countOf file → Climbable file v
   accepted-climbable v h =
       record { here = accepted-in-file v h; preorder = λ i _. accepted-sound file ok .preorder i }
+
+-- n, k and h of an accepted file are small
+pub sizes-hold : {file : List ℕ} {sizes : code.Tree} → AcceptedSizes file sizes → SizesHold sizes
+sizes-hold {file} of =
+    let head = accepted-header file (of .accepted) in
+    rw (of .of-file) (record {
+      some = head .some;
+      nodes = head .few;
+      budget = head .budget;
+      height = height-bound (treeOf file) (demandOf file) (accepted-sound file (of .accepted));
+    })
 
 -- ---- the height, as it is found
 

@@ -3,9 +3,9 @@ use mathlib.Core.Path.{_≡_}
 use mathlib.Core.List.{List}
 use Prim.Native.Nat.{ℕ, suc, _≤_, _<_}
 use lib.ListN.{length, getD}
-use Rattle.model.specs.File.{Tree, mostNodes, countOf, budgetOf, recordAt, treeOf}
+use Rattle.model.specs.File.{Tree, mostNodes, mostBudget, mostDepth, countOf, budgetOf, recordAt, treeOf}
 use Rattle.model.specs.Tree.{depth, height}
-use Rattle.model.specs.Rules.{Verdict, passed, broken}
+use Rattle.model.specs.Rules.{Verdict, passed, broken, fileVerdict}
 use Rattle.model.specs.Calls.{Answer, answered, refused}
 use Rattle.model.specs.Preorder.{PreorderTo}
 use Rattle.fields.specs.Table.{InFile}
@@ -26,6 +26,18 @@ answerOf (Refused q i) = refused q i
 -- n, k and h of a file
 abbrev pub sizesOf : List ℕ → code.Tree
 sizesOf file = record { nodes = countOf file; budget = budgetOf file; height = height (treeOf file) }
+
+-- n, k and h of an accepted file
+pub record AcceptedSizes (file : List ℕ) (sizes : code.Tree) : Type 0 where
+  pub accepted : fileVerdict file ≡ passed
+  pub of-file : sizes ≡ sizesOf file
+
+-- n is at least 1, and all three are within the limits of a tree file
+pub record SizesHold (sizes : code.Tree) : Type 0 where
+  pub some : 1 ≤ sizes .nodes
+  pub nodes : sizes .nodes ≤ mostNodes
+  pub budget : sizes .budget ≤ mostBudget
+  pub height : sizes .height ≤ mostDepth
 
 -- record i stands in the file, and rule 7 holds of the nodes before it
 pub record NextRecord (file : List ℕ) (i : ℕ) : Type 0 where

@@ -70,6 +70,19 @@ impl Total {
         if other.0 < self.0 { other } else { self }
     }
 
+    // The lesser of this, at most 2^62, and a sum of at most 2^63. Their difference is compared, so that the compiler makes no jump;
+    // that is faster than `lesser` where either may be the smaller.
+    pub fn lowered(self, by: Total) -> Total
+        requires { ⌜ (self .0 ≤ 2 ^ 62) × (by .0 ≤ 2 ^ 63) ⌝ }
+        ensures { λ r. ⌜ r .0 ≡ min (self .0) (by .0) ⌝ }
+    {
+        if std::num::wrapping_sub_u64(self.0, by.0) < (1 << 63) {
+            by
+        } else {
+            self
+        }
+    }
+
     pub fn is_less(self, other: Total) -> bool
         ensures { λ r. ⌜ r ≡ ltb (self .0) (other .0) ⌝ }
     {

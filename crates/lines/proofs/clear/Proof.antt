@@ -1,20 +1,19 @@
--- `clear`: stores "does not fit" in the entries from `end` to w.
+-- `clear`: stores the cap in the entries from `end` on.
 use mathlib.Core.Path.{_≡_, refl}
 use Prim.Native.Nat.{_-_, _≤_}
 use native.Mathlib.Omega.{arith}
 use lib.ListN.{length, length-set}
 use borrow.Author.Needs.{needs}
 use Rattle.best_rows.specs.Best.{cap}
-use Rattle.lines.specs.Line.{Cleared}
-use Rattle.lines.proofs.Row.{clear-begins, clear-next, clear-fewer}
+use Rattle.lines.proofs.Row.{ClearedTo, clear-begins, clear-next, clear-ends}
 use Rattle.lines.proofs.clear.Statement.{statement}
 use Rattle.lines.proofs.clear.Tie as tie
 
 abbrev Inv-loop : tie.InvT-loop
-Inv-loop line₀ end w n₀ line n = (end ≤ n) × (length line ≡ length line₀) × Cleared line₀ end n line
+Inv-loop line₀ end n₀ line n = (end ≤ n) × (length line ≡ length line₀) × ClearedTo line₀ end n line
 
 abbrev μ-loop : tie.MeasureT-loop
-μ-loop line₀ end w n₀ line n = w - n
+μ-loop line₀ end n₀ line n = length line - n
 
 loop-holds : tie.Need-loop-holds Inv-loop μ-loop
 loop-holds c = (omega arith, refl, clear-begins _ _)
@@ -29,7 +28,7 @@ add-n : tie.Need-add-n Inv-loop μ-loop
 add-n c = search needs
 
 loop-less : tie.Need-loop-less Inv-loop μ-loop
-loop-less c = search needs
+loop-less c = simp length-set (omega arith)
 
 loop-again : tie.Need-loop-again Inv-loop μ-loop
 unfolding cap
@@ -41,7 +40,7 @@ same-length : tie.Need-same-length Inv-loop μ-loop
 same-length c = search needs
 
 returns : tie.Need-returns Inv-loop μ-loop
-returns c = clear-fewer _ _ _ _ (omega arith) (c .before .loop .inv .2)
+returns c = clear-ends _ _ (c .before .loop .n) _ (omega (arith, c .before .loop .inv .1)) (c .before .loop .inv .2)
 
 pub clear-spec : {M : Type 1} → statement M
 clear-spec =

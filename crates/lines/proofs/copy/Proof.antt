@@ -1,10 +1,10 @@
--- `copy`: copies the first w entries of a line.
-use mathlib.Core.Path.{_≡_, refl}
+-- `copy`: copies a line.
+use mathlib.Core.Path.{_≡_, refl, _∙_, ap}
 use mathlib.Core.List.{map}
 use Prim.Native.Nat.{_-_, _≤_}
 use native.Mathlib.Omega.{arith}
 use lib.ListN.{length, length-set, getD}
-use lib.Seq.{sets}
+use lib.Seq.{sets, take-length}
 use borrow.Author.Needs.{needs}
 use Rattle.laws.specs.Lists.{range}
 use Rattle.laws.proofs.Stores.{loop-begins, loop-turns}
@@ -13,11 +13,11 @@ use Rattle.lines.proofs.copy.Statement.{statement}
 use Rattle.lines.proofs.copy.Tie as tie
 
 abbrev Inv-loop : tie.InvT-loop
-Inv-loop to₀ line w i₀ to i =
-    (i ≤ w) × (length to ≡ length to₀) × (to ≡ sets to₀ 0 (map (λ j. getD line j 0) (range 0 i)))
+Inv-loop to₀ line i₀ to i =
+    (i ≤ length line) × (length to ≡ length to₀) × (to ≡ sets to₀ 0 (map (λ j. getD line j 0) (range 0 i)))
 
 abbrev μ-loop : tie.MeasureT-loop
-μ-loop to₀ line w i₀ to i = w - i
+μ-loop to₀ line i₀ to i = length line - i
 
 loop-holds : tie.Need-loop-holds Inv-loop μ-loop
 loop-holds c = (omega arith, refl, loop-begins _ _ _)
@@ -48,8 +48,9 @@ same-length c = search needs
 
 returns : tie.Need-returns Inv-loop μ-loop
 returns c =
-    let s = c .before .before in
-    loop-copied-front _ _ (s .args .line .now) (c .before .loop .i) (s .args .w) (c .before .loop .inv .2) (omega arith) (omega arith)
+    let line = c .before .before .args .line .now in
+    loop-copied-front _ 0 line (c .before .loop .i) (length line) (c .before .loop .inv .2) (omega arith) (omega arith)
+    ∙ ap (sets _ 0) (take-length line)
 
 pub copy-spec : {M : Type 1} → statement M
 copy-spec =

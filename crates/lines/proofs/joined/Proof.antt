@@ -1,19 +1,20 @@
 -- `joined`: makes the line of a row of two parts from their lines.
 use mathlib.Core.Path.{_≡_, refl, _∙_}
-use Prim.Native.Nat.{_-_, _≤_}
+use Prim.Native.Nat.{_-_}
 use native.Mathlib.Omega.{arith}
 use lib.ListN.{length}
 use borrow.Author.Needs.{needs}
-use Rattle.lines.proofs.Row.{LeastBefore, row-begins, row-turns, row-ends}
+use Rattle.lines.proofs.Entries.{stored-within}
+use Rattle.lines.proofs.Row.{LeastBefore, least-line, row-begins, row-turns, row-ends}
 use Rattle.lines.proofs.joined.Statement.{statement}
 use Rattle.lines.proofs.joined.Tie as tie
 
 abbrev Inv-loop : tie.InvT-loop
-Inv-loop line₀ first second w end stop r₀ line r =
-    (r ≤ w) × (length line ≡ w) × LeastBefore first second w r line
+Inv-loop line₀ first second r₀ line r =
+    (length line ≡ length line₀) × LeastBefore first second r line
 
 abbrev μ-loop : tie.MeasureT-loop
-μ-loop line₀ first second w end stop r₀ line r = stop - r
+μ-loop line₀ first second r₀ line r = length second - r
 
 -- the start, seen from where the first sums are made
 abbrev start : tie.After-shared-slice-known3 Inv-loop μ-loop → tie.Start Inv-loop μ-loop
@@ -27,15 +28,20 @@ entered e = start (e .before .before .before .before .before .before .before .be
 abbrev state : tie.After-lesser Inv-loop μ-loop → tie.At-loop Inv-loop μ-loop
 state e = e .before .before .before
 
-shared-slice-read-t12 : tie.Need-shared-slice-read-t12 Inv-loop μ-loop
-shared-slice-read-t12 c = let p = start c .pre .1 in omega (arith, p .long .1, p .nonempty)
+-- the line is as long as it was
+width : (e : tie.At-loop Inv-loop μ-loop) → length (e .loop .line) ≡ length (entered e .args .line .now)
+width e =
+    let clear = e .before .before .before .clear in
+    let begin = e .before .before .before .before .before .before .before .begin in
+    e .loop .inv .0 ∙ clear .kept .0 ∙ begin .kept .0
+
+shared-slice-read-t9 : tie.Need-shared-slice-read-t9 Inv-loop μ-loop
+shared-slice-read-t9 c = omega (arith, start c .pre .second-line .some)
 
 begin-requires : tie.Need-begin-requires Inv-loop μ-loop
 begin-requires c κs =
-    let p = start c .pre .1 in (
-      (omega (arith, start c .pre .0, p .ends .0), omega (arith, p .long .0, p .ends .0)),
-      λ n h. p .fits n 0 (omega (arith, p .ends .0)) (p .nonempty),
-    )
+    let p = start c .pre in
+    (p .ends .0, (p .first-line, stored-within _ 0 (p .second-line) (p .second-line .some)))
 
 clear-requires : tie.Need-clear-requires Inv-loop μ-loop
 clear-requires c κs = search needs
@@ -45,32 +51,38 @@ loop-holds c =
     let clear = c .before .before .clear in
     let begin = c .before .before .before .before .before .before .begin in
     let s = start (c .before .before .before .before .before .before .before) in
-    let p = s .pre .1 in (
-      omega (arith, p .nonempty),
-      clear .kept .0 ∙ begin .kept .0 ∙ s .pre .0,
-      row-begins (s .args .first .now) (s .args .second .now) (s .args .w) (s .args .end) (begin .last .0) (clear .last .0) (p .none .0) refl (begin .ensures) (clear .ensures),
+    let p = s .pre in (
+      refl,
+      row-begins (s .args .first .now) (s .args .second .now) (begin .last .0) (clear .last .0) (clear .kept .0) (p .second-line .some) refl (begin .ensures) (clear .ensures),
     )
 
 sub-lesser : tie.Need-sub-lesser Inv-loop μ-loop
-sub-lesser c = omega (arith, entered (c .before .before) .pre .1 .ends .1)
+sub-lesser c =
+    let at = c .before .before in
+    omega (arith, entered at .pre .ends .1, width at)
 
 lesser-requires : tie.Need-lesser-requires Inv-loop μ-loop
 lesser-requires c κs = search needs
 
 mul-t22 : tie.Need-mul-t22 Inv-loop μ-loop
-mul-t22 c = let p = entered (state c) .pre .1 in omega (arith, p .long .1, p .ends .1)
+mul-t22 c = search needs
 
 shared-slice-read-t24 : tie.Need-shared-slice-read-t24 Inv-loop μ-loop
-shared-slice-read-t24 c = let p = entered (state (c .before)) .pre .1 in omega (arith, p .long .1, p .ends .1)
+shared-slice-read-t24 c = search needs
 
 lower-requires : tie.Need-lower-requires Inv-loop μ-loop
 lower-requires c κs =
     let at = state (c .before) in
-    let p = entered at .pre .1 in
+    let s = entered at in
+    let p = s .pre in
     let l = at .loop in
     let e = c .before .lesser .ensures in (
-      (omega (arith, e, p .ends .1, l .inv .1), omega (arith, e, p .long .0)),
-      λ n h. p .fits n (l .r) (omega (arith, e)) (omega (arith, p .ends .1)),
+      (omega (arith, e, p .ends .1, width at), omega (arith, e)),
+      (
+        least-line (s .args .first .now) (s .args .second .now) (l .r) (l .line) (omega (arith, p .ends .0, p .first-line .some, width at)) (l .inv .1),
+        p .first-line,
+        stored-within _ (l .r) (p .second-line) (omega arith),
+      ),
     )
 
 add-r : tie.Need-add-r Inv-loop μ-loop
@@ -85,9 +97,8 @@ loop-again c =
     let e = c .before .before .before .before in
     let l = state e .loop in
     let s = entered (state e) in (
-      omega (arith, s .pre .1 .ends .1),
-      lower .kept .0 ∙ l .inv .1,
-      row-turns (s .args .first .now) (s .args .second .now) (s .args .w) (s .args .end) (l .r) (e .lesser .result) (l .line) (lower .last .0) (s .pre .1 .none .0) refl (e .lesser .ensures) (l .inv .2) (lower .ensures),
+      lower .kept .0 ∙ l .inv .0,
+      row-turns (s .args .first .now) (s .args .second .now) (l .r) (e .lesser .result) (l .line) (lower .last .0) (lower .kept .0) (omega arith) refl (e .lesser .ensures) (l .inv .1) (lower .ensures),
     )
 
 same-length : tie.Need-same-length Inv-loop μ-loop
@@ -97,7 +108,7 @@ returns : tie.Need-returns Inv-loop μ-loop
 returns c =
     let s = entered (c .before) in
     let l = c .before .loop in
-    row-ends (s .args .first .now) (s .args .second .now) (s .args .w) (l .r) _ (l .inv .1) (λ n h. s .pre .1 .none .1 n (omega arith)) (l .inv .2)
+    row-ends (s .args .first .now) (s .args .second .now) (l .r) _ _ (width (c .before)) (omega arith) (l .inv .1)
 
 pub joined-spec : {M : Type 1} → statement M
 joined-spec =
@@ -105,7 +116,7 @@ joined-spec =
     (tie.spec
     Inv-loop
     μ-loop
-    shared-slice-read-t12
+    shared-slice-read-t9
     begin-requires
     clear-requires
     loop-holds

@@ -1,62 +1,85 @@
--- `later`: how many of a row's m caches are among the later siblings: the smallest number at which the split costs least.
-use mathlib.Core.Logic.{⊎-elim}
-use Prim.Native.Nat.{_+_, _-_, _≤_}
+-- `later`: how many of a row's m caches are among the later siblings: the smallest number at which the split costs the least.
+use mathlib.Core.Path.{_≡_}
+use Prim.Native.Nat.{ℕ, _-_, _≤_, _<_}
 use native.Mathlib.Omega.{arith}
 use borrow.Author.Needs.{needs}
-use Rattle.best_rows.specs.Best.{split, rowBest}
-use Rattle.lines.specs.Line.{lineNode, lineSplit, lineLater, lineBest}
-use Rattle.lines.proofs.First.{FirstFrom, first-begins, first-lowers, first-stays, first-ends}
+use borrow.Author.Tests.{ltb-true, ltb-false}
+use Rattle.laws.proofs.Bools.{held, failed}
+use Rattle.best_rows.specs.Least.{firstLeast}
+use Rattle.best_rows.proofs.Least.{first-least-within}
+use Rattle.lines.specs.Line.{lineSplit, lineLater}
+use Rattle.lines.proofs.First.{first-least-after, first-least-here}
+use Rattle.lines.proofs.LeastSplit.{least-is-split, later-from}
 use Rattle.lines.proofs.later.Statement.{statement}
 use Rattle.lines.proofs.later.Tie as tie
 
 abbrev Inv-loop : tie.InvT-loop
-Inv-loop cached uncached rest member other m most first₀ least₀ r₀ first least r =
-    (r ≤ m + 1) × FirstFrom (lineSplit cached uncached rest (member .0) (other .0) m) (m - most) r first (least .0)
+Inv-loop cached uncached rest member other m least r₀ r = r ≤ firstLeast (lineSplit cached uncached rest (member .0) (other .0) m) m
 
 abbrev μ-loop : tie.MeasureT-loop
-μ-loop cached uncached rest member other m most first₀ least₀ r₀ first least r = m + 1 - r
+μ-loop cached uncached rest member other m least r₀ r = m - r
 
-sub-first : tie.Need-sub-first Inv-loop μ-loop
-sub-first c = search needs
+-- the start, seen from the loop's state, and that from where a split was tried
+abbrev entered : tie.At-loop Inv-loop μ-loop → tie.Start Inv-loop μ-loop
+entered e = e .before .before .before .before .before
 
-split-requires : tie.Need-split-requires Inv-loop μ-loop
-split-requires c κs = (c .before .before .before .pre .0, omega arith)
+abbrev state : tie.After-is-less Inv-loop μ-loop → tie.At-loop Inv-loop μ-loop
+state e = e .before .before .before
 
-add-r : tie.Need-add-r Inv-loop μ-loop
-add-r c = search needs
+-- the number that is looked for
+abbrev first : tie.At-loop Inv-loop μ-loop → ℕ
+first e =
+    let a = entered e .args in
+    firstLeast (lineSplit (a .cached .now) (a .uncached .now) (a .rest .now) (a .member .0) (a .other .0) (a .m)) (a .m)
+
+-- where the least was found to be less, it is larger than r
+larger : (c : tie.Else1 Inv-loop μ-loop) → state (c .before) .loop .r < first (state (c .before))
+larger c =
+    let e = c .before in
+    let s = entered (state e) in
+    let less = ltb-true (s .args .least .0) (e .before .split .result .0) (held (e .is-less .ensures) (c .if1 .left)) in
+    first-least-after _ _ (state e .loop .r) (state e .loop .inv) (omega (arith, less, e .before .split .ensures, least-is-split (s .args .m) (s .pre .0) (s .pre .1)))
+
+lesser-requires : tie.Need-lesser-requires Inv-loop μ-loop
+lesser-requires c κs = search needs
+
+sub-r : tie.Need-sub-r Inv-loop μ-loop
+sub-r c = search needs
 
 loop-holds : tie.Need-loop-holds Inv-loop μ-loop
-loop-holds c = (omega arith, first-begins _ (c .split .ensures))
+loop-holds c =
+    let s = c .before .before .before .before in
+    omega (arith, c .lesser .ensures, later-from (s .args .m) (s .pre .0) (s .pre .1))
 
-split-requires-2 : tie.Need-split-requires-2 Inv-loop μ-loop
-split-requires-2 c κs = (c .before .before .before .before .before .before .pre .0, omega arith)
+split-requires : tie.Need-split-requires Inv-loop μ-loop
+split-requires c κs = (entered (c .before) .pre .0, omega arith)
 
 is-less-requires : tie.Need-is-less-requires Inv-loop μ-loop
 is-less-requires c κs = search needs
 
-add-r-2 : tie.Need-add-r-2 Inv-loop μ-loop
-add-r-2 c = search needs
+returns : tie.Need-returns Inv-loop μ-loop
+unfolding lineLater
+returns c =
+    let e = c .before in
+    let s = entered (state e) in
+    let no-less = ltb-false (s .args .least .0) (e .before .split .result .0) (failed (e .is-less .ensures) (c .if1 .taken)) in
+    first-least-here _ _ (state e .loop .r) (state e .loop .inv) (omega (arith, no-less, e .before .split .ensures, least-is-split (s .args .m) (s .pre .0) (s .pre .1)))
+
+add-r : tie.Need-add-r Inv-loop μ-loop
+add-r c = search needs
 
 loop-less : tie.Need-loop-less Inv-loop μ-loop
 loop-less c = search needs
 
 loop-again : tie.Need-loop-again Inv-loop μ-loop
-loop-again c =
-    let l = c .before .before .before .before .loop in
-    let s = c .before .before .split2 .ensures in
-    let t = c .before .is-less .ensures in (
-      omega arith,
-      ⊎-elim (λ w. rw (w .1, w .2) (first-lowers _ (l .inv .1) s t (w .0 .taken)))
-          (λ w. rw (w .1, w .2) (first-stays _ (l .inv .1) s t (w .0 .left))) (c .if1 .came),
-    )
+loop-again c = omega (arith, larger c)
 
-returns : tie.Need-returns Inv-loop μ-loop
-unfolding lineLater lineNode lineBest split rowBest
-returns c =
-    let st = c .before .before .before .before .before .before in
-    let bound = st .pre .1 in
-    first-ends _ (st .args .m) (c .before .loop .inv .1) (omega arith)
-    (λ i h. omega (arith, bound .over (st .args .m - i) (omega arith) (omega arith), bound .attained))
+returns-2 : tie.Need-returns-2 Inv-loop μ-loop
+unfolding lineLater
+returns-2 c =
+    let e = c .before in
+    let within : first e ≤ entered e .args .m = first-least-within _ _ in
+    omega (arith, e .loop .inv, c .loop-test .left)
 
 pub later-spec : {M : Type 1} → statement M
 later-spec =
@@ -64,13 +87,13 @@ later-spec =
     (tie.spec
     Inv-loop
     μ-loop
-    sub-first
-    split-requires
-    add-r
+    lesser-requires
+    sub-r
     loop-holds
-    split-requires-2
+    split-requires
     is-less-requires
-    add-r-2
+    returns
+    add-r
     loop-less
     loop-again
-    returns)
+    returns-2)

@@ -1,13 +1,13 @@
 -- `lower`: for each n < end: line[r + n] becomes other[n] + cost if that is smaller.
-use mathlib.Core.Path.{_≡_, refl, sym, _∙_}
-use mathlib.Core.Logic.{⊎-elim}
-use Prim.Native.Nat.{_-_, _≤_}
+use mathlib.Core.Path.{_≡_, refl, _∙_}
+use Prim.Native.Nat.{_+_, _-_, _≤_}
 use native.Mathlib.Omega.{arith}
 use lib.ListN.{length, length-set}
 use borrow.Author.Needs.{needs}
-use borrow.Author.Tests.{ltb-true, ltb-false}
+use Rattle.best_rows.specs.Best.{cap}
 use Rattle.lines.specs.Line.{Lowered}
-use Rattle.lines.proofs.Row.{lower-begins, lower-stores, lower-stays}
+use Rattle.lines.proofs.Entries.{stored-within}
+use Rattle.lines.proofs.Row.{lower-begins, lower-here, lower-next}
 use Rattle.lines.proofs.lower.Statement.{statement}
 use Rattle.lines.proofs.lower.Tie as tie
 
@@ -25,24 +25,32 @@ add-m : tie.Need-add-m Inv-loop μ-loop
 add-m c = omega arith
 
 mul-t10 : tie.Need-mul-t10 Inv-loop μ-loop
-mul-t10 c = let s = c .before .before .before .before in omega (arith, s .pre .0 .1)
-
-shared-slice-read-t12 : tie.Need-shared-slice-read-t12 Inv-loop μ-loop
-shared-slice-read-t12 c = let s = c .before .before .before .before .before in omega (arith, s .pre .0 .1)
-
-plus-requires : tie.Need-plus-requires Inv-loop μ-loop
-plus-requires c κs =
-    let s = c .before .before .before .before .before in
-    omega (arith, s .pre .1 (c .before .before .loop .n) (omega arith))
-
-mul-t10-2 : tie.Need-mul-t10-2 Inv-loop μ-loop
-mul-t10-2 c = omega arith
+mul-t10 c = omega arith
 
 slice-read-t12 : tie.Need-slice-read-t12 Inv-loop μ-loop
 slice-read-t12 c = omega arith
 
-is-less-requires : tie.Need-is-less-requires Inv-loop μ-loop
-is-less-requires c κs = search needs
+mul-t15 : tie.Need-mul-t15 Inv-loop μ-loop
+mul-t15 c = let s = c .before .before .before .before .before in omega (arith, s .pre .0 .1)
+
+shared-slice-read-t17 : tie.Need-shared-slice-read-t17 Inv-loop μ-loop
+shared-slice-read-t17 c = let s = c .before .before .before .before .before .before in omega (arith, s .pre .0 .1)
+
+plus-requires : tie.Need-plus-requires Inv-loop μ-loop
+unfolding cap
+plus-requires c κs =
+    let s = c .before .before .before .before .before .before in
+    let l = c .before .before .before .loop in
+    omega (arith, stored-within (s .args .other .now) (l .n) (s .pre .1 .1) (omega (arith, s .pre .0 .1)), s .pre .1 .2)
+
+lowered-requires : tie.Need-lowered-requires Inv-loop μ-loop
+unfolding cap
+lowered-requires c κs =
+    let s = c .before .before .before .before .before .before .before in
+    let l = c .before .before .before .before .loop in (
+      omega (arith, lower-here _ (s .args .other .now) (s .args .r) (s .args .cost .0) (l .n) (l .inv .2), stored-within (s .args .line .now) (s .args .r + l .n) (s .pre .1 .0) (omega (arith, s .pre .0 .0))),
+      omega (arith, c .plus .ensures, stored-within (s .args .other .now) (l .n) (s .pre .1 .1) (omega (arith, s .pre .0 .1)), s .pre .1 .2),
+    )
 
 mul-line : tie.Need-mul-line Inv-loop μ-loop
 mul-line c = omega arith
@@ -58,22 +66,13 @@ loop-less c = search needs
 
 loop-again : tie.Need-loop-again Inv-loop μ-loop
 loop-again c =
-    let l = c .before .before .before .before .before .before .loop in
-    let a = c .before .before .before .before .before .before .before .before .before .args in
-    let sum = c .before .before .before .plus .ensures in
-    let test = sym (c .before .is-less .ensures) in
-    ⊎-elim
-    (λ w. rw (w .1) (
+    let s = c .before .before .before .before .before .before .before .before in
+    let l = c .before .before .before .before .before .loop in
+    let sum = c .before .plus .ensures in (
       omega arith,
       simp length-set (l .inv .1),
-      lower-stores _ (a .other .now) (a .r) (a .cost .0) (l .n) (l .inv .2) sum (omega arith) (ltb-true _ _ (test ∙ w .0 .taken)),
-    ))
-    (λ w. rw (w .1) (
-      omega arith,
-      l .inv .1,
-      lower-stays _ (a .other .now) (a .r) (a .cost .0) (l .n) (l .inv .2) sum (ltb-false _ _ (test ∙ w .0 .left)),
-    ))
-    (c .if1 .came)
+      lower-next _ (s .args .other .now) (s .args .r) (s .args .cost .0) (l .n) (l .inv .2) (c .lowered .ensures ∙ rw sum refl) (omega (arith, l .inv .1, s .pre .0 .0)),
+    )
 
 same-length : tie.Need-same-length Inv-loop μ-loop
 same-length c = search needs
@@ -93,11 +92,11 @@ lower-spec =
     loop-holds
     add-m
     mul-t10
-    shared-slice-read-t12
-    plus-requires
-    mul-t10-2
     slice-read-t12
-    is-less-requires
+    mul-t15
+    shared-slice-read-t17
+    plus-requires
+    lowered-requires
     mul-line
     slice-write-line
     add-n

@@ -1,10 +1,9 @@
 -- `split`: the cost of a row with m caches, of which r are among the later siblings.
-use Prim.Native.Nat.{_+_, _-_}
+use Prim.Native.Nat.{_-_}
 use native.Mathlib.Omega.{arith}
 use borrow.Author.Needs.{needs}
 use Rattle.best_rows.specs.Best.{cap, split}
 use Rattle.lines.specs.Line.{lineNode}
-use Rattle.lines.proofs.Fewer.{parts-fewer}
 use Rattle.lines.proofs.Node.{node-within}
 use Rattle.lines.proofs.split.Statement.{statement}
 use Rattle.lines.proofs.split.Tie as tie
@@ -13,26 +12,21 @@ sub-here : tie.Need-sub-here
 sub-here c = search needs
 
 node-best-requires : tie.Need-node-best-requires
-node-best-requires c κs = let s = c .before .before .before in parts-fewer _ (s .args .m + 1) (omega arith) (s .pre .0 .node-parts)
+node-best-requires c κs = search needs
 
-mul-t10 : tie.Need-mul-t10
-mul-t10 c = search needs
-
-shared-slice-read-t12 : tie.Need-shared-slice-read-t12
-shared-slice-read-t12 c = search needs
+entry-requires : tie.Need-entry-requires
+entry-requires c κs = search needs
 
 plus-requires : tie.Need-plus-requires
 unfolding cap
 plus-requires c κs =
     let s = c .before .before .before .before .before in
     let a = s .args in
-    omega (arith, node-within (a .cached .now) (a .uncached .now) (a .member .0) (a .other .0) (a .m - a .r) (a .m + 1) (omega arith) (s .pre .0 .node-parts), s .pre .0 .rest-line .within (a .r) (omega arith))
+    omega (arith, c .entry .ensures, c .before .node-best .ensures, node-within (a .cached .now) (a .uncached .now) (a .member .0) (a .other .0) (a .m - a .r) (s .pre .0 .node-parts), s .pre .0 .rest-line .within (a .r))
 
 returns : tie.Need-returns
 unfolding split lineNode
 returns c = omega arith
 
 pub split-spec : {M : Type 1} → statement M
-split-spec =
-    tie.close
-    (tie.spec sub-here node-best-requires mul-t10 shared-slice-read-t12 plus-requires returns)
+split-spec = tie.close (tie.spec sub-here node-best-requires entry-requires plus-requires returns)

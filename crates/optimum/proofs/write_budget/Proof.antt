@@ -1,48 +1,45 @@
 -- `write_budget`: writes the total and the row of budget b, and returns how many caches it has; `last` is how many the budget before has.
-use mathlib.Core.Path.{ap}
+use mathlib.Core.Path.{ap, _∙_}
 use Prim.Native.Nat.{_*_}
 use native.Mathlib.Omega.{arith}
 use lib.ListN.{set}
 use borrow.Author.Needs.{needs}
 use Rattle.optimum.proofs.Walk.{table-sound, table-has-node}
-use Rattle.optimum.proofs.Budgets.{line-place, counts-there, count-found, count-there, total-found, budget-row, row-found}
+use Rattle.optimum.proofs.Budgets.{line-place, count-found, total-found, budget-row, row-found}
 use Rattle.optimum.proofs.write_budget.Statement.{statement}
 use Rattle.optimum.proofs.write_budget.Tie as tie
 
 -- the start, seen from where the number of caches was found
 abbrev start : tie.After-better-count → tie.Start
-start n = n .before .before .before .before .before .before .before
+start n = n .before .before .before .before .before .before .before .before .before
 
 child-of-requires : tie.Need-child-of-requires
-child-of-requires c κs = let r = c .before .before .before .before .pre .0 .table in table-has-node r (table-sound r .some)
+child-of-requires c κs = let r = c .before .before .before .before .before .before .pre .0 .table in table-has-node r (table-sound r .some)
 
 line-requires : tie.Need-line-requires
-line-requires c κs = line-place (c .before .before .before .before .before .pre .0) (c .child-of .ensures)
+line-requires c κs = line-place (c .before .before .before .before .before .before .before .pre .0) (c .child-of .ensures)
 
 better-count-requires : tie.Need-better-count-requires
-better-count-requires c κs = counts-there (c .before .before .before .before .before .before .pre .0) (c .before .child-of .ensures) (c .line .ensures)
+better-count-requires c κs = search needs
+
+entry-requires : tie.Need-entry-requires
+entry-requires c κs = search needs
 
 mul-totals : tie.Need-mul-totals
-mul-totals c = omega (arith, count-there (start c .pre .0) (c .before .before .child-of .ensures) (c .before .line .ensures) (c .better-count .ensures))
-
-shared-slice-read-totals : tie.Need-shared-slice-read-totals
-shared-slice-read-totals c =
-    let n = c .before in
-    count-there (start n .pre .0) (n .before .before .child-of .ensures) (n .before .line .ensures) (n .better-count .ensures)
-
-mul-totals-2 : tie.Need-mul-totals-2
-mul-totals-2 c = search needs
+mul-totals c = search needs
 
 slice-write-totals : tie.Need-slice-write-totals
-slice-write-totals c = search needs
+slice-write-totals c = omega (arith, start (c .before) .pre .0 .within, start (c .before) .pre .1 .totalsLong)
 
 mul-write-row : tie.Need-mul-write-row
-mul-write-row c = let st = c .before .before .before .before .before .before .before .before .before .before in omega (arith, budget-row (st .pre .0) (c .before .before .before .before .before .child-of .ensures) (c .before .before .before .before .line .ensures) (c .before .before .before .better-count .ensures) (st .pre .1) .1)
+mul-write-row c =
+    let n = c .before .before in
+    omega (arith, budget-row (start n .pre .0) (n .before .before .child-of .ensures) (n .before .line .ensures) (n .better-count .ensures) (start n .pre .1) .1, start n .good .1 .1 .1 .1 .1 .1 .0)
 
 write-row-requires : tie.Need-write-row-requires
 write-row-requires c κs =
-    let n = c .before .before .before in
-    budget-row (start n .pre .0) (n .before .before .child-of .ensures) (n .before .line .ensures) (n .better-count .ensures) (start n .pre .1)
+    let n = c .before .before in
+    (start n .pre .0 .budget, budget-row (start n .pre .0) (n .before .before .child-of .ensures) (n .before .line .ensures) (n .better-count .ensures) (start n .pre .1))
 
 same-length : tie.Need-same-length
 same-length c = search needs
@@ -52,7 +49,7 @@ same-length-2 c = search needs
 
 returns : tie.Need-returns
 returns c =
-    let n = c .before .before .before .before .before .before in
+    let n = c .before .before .before .before .before in
     let b = start n .pre .0 in
     let a = start n .args in
     let first = n .before .before .child-of .ensures in
@@ -60,8 +57,8 @@ returns c =
     let count = n .better-count .ensures in (
       count-found b first line count,
       (
-        ap (set (a .totals .now) (a .b)) (total-found b first line count),
-        row-found b first line count (a .rows .now) (a .b * a .tree .budget) (c .before .before .write-row .ensures),
+        ap (set (a .totals .now) (a .b)) (c .before .before .before .before .entry .ensures ∙ total-found b first line count),
+        row-found b first line count (a .rows .now) (a .b * a .k) (c .before .before .write-row .ensures),
       ),
     )
 
@@ -72,9 +69,8 @@ write-budget-spec =
     child-of-requires
     line-requires
     better-count-requires
+    entry-requires
     mul-totals
-    shared-slice-read-totals
-    mul-totals-2
     slice-write-totals
     mul-write-row
     write-row-requires

@@ -3,26 +3,28 @@ use mathlib.Core.Path.{_≡_, _∙_}
 use Prim.Native.Nat.{_-_, _≤_}
 use native.Mathlib.Nat.{le-refl}
 use native.Mathlib.Omega.{arith}
-use Rattle.model.specs.File.{treeOf}
+use Rattle.model.specs.File.{treeOf, budgetOf}
 use Rattle.model.specs.Tree.{depth}
 use Rattle.best_rows.specs.Guarded.{mayBe}
 use Rattle.tree_file.proofs.Accepted.{accepted-long}
 use Rattle.node_words.specs.Ancestors.{ancestorAt}
 use Rattle.node_words.proofs.Words.{room-record}
-use Rattle.table.specs.Table.{lineNumber, LinesFilled, Served}
-use Rattle.table.proofs.Room.{in-tree, room-nodes, stored-node, stored-client}
+use Rattle.table.specs.Table.{placeOf, LinesFilled, Served}
+use Rattle.table.proofs.Room.{room-nodes, stored-node, stored-client}
 use Rattle.table.proofs.Reading.{served-above-it}
 use Rattle.table.proofs.Climb.{climb-begins, climb-record, climb-up}
-use Rattle.table.proofs.Fill.{next-line, line-filled, node-begins, filled-none, filled-then}
+use Rattle.table.proofs.Fill.{next-line, line-filled, node-begins, node-ends, filled-none, filled-then}
 use Rattle.table.proofs.fill_node.Statement.{statement}
 use Rattle.table.proofs.fill_node.Tie as tie
 
 abbrev Inv-loop : tie.InvT-loop
-Inv-loop file tree s₀ counts v size part member a₀ u₀ s a u =
-    (a ≤ depth (treeOf file) v) × (u ≡ ancestorAt (treeOf file) v a) × LinesFilled file (mayBe (treeOf file)) tree (lineNumber tree v a) s₀ s
+Inv-loop file s₀ starts widths v size part member a₀ u₀ s a u =
+    (a ≤ depth (treeOf file) v)
+    × (u ≡ ancestorAt (treeOf file) v a)
+    × LinesFilled file (mayBe (treeOf file)) starts widths (placeOf (treeOf file) (budgetOf file) v a) s₀ s
 
 abbrev μ-loop : tie.MeasureT-loop
-μ-loop file tree s₀ counts v size part member a₀ u₀ s a u = a
+μ-loop file s₀ starts widths v size part member a₀ u₀ s a u = a
 
 -- ---- the loop, seen from where the parent was read; what was read before it; and the start
 
@@ -36,7 +38,7 @@ abbrev part : tie.After-pays-itself Inv-loop μ-loop → tie.After-cachable-in I
 part c = c .before .before
 
 abbrev start : tie.After-cachable-in Inv-loop μ-loop → tie.Start Inv-loop μ-loop
-start c = c .before .before .before .before .before
+start c = c .before .before .before .before .before .before
 
 -- the parent that was read is the next node that serves v
 up : (c : tie.After-parent-in Inv-loop μ-loop) → let a = start (part (member (loop c))) .args in
@@ -49,27 +51,27 @@ up c =
 -- ---- the answers
 
 record-length-requires : tie.Need-record-length-requires Inv-loop μ-loop
-record-length-requires c κs = accepted-long _ (c .before .before .before .pre .1 .0 .stored .room .accepted)
+record-length-requires c κs = accepted-long _ (c .before .before .before .before .pre .1 .stored .room .accepted)
 
 cachable-in-requires : tie.Need-cachable-in-requires Inv-loop μ-loop
 cachable-in-requires c κs =
-    let st = c .before .before .before .before in
-    (c .record-length .ensures, room-record (room-nodes (st .pre .1 .0 .stored .room)) (st .pre .0 .1))
+    let st = c .before .before .before .before .before in
+    (c .record-length .ensures, room-record (room-nodes (st .pre .1 .stored .room)) (st .pre .0 .1))
 
 pays-itself-requires : tie.Need-pays-itself-requires Inv-loop μ-loop
 pays-itself-requires c κs =
     let st = start (c .before) in
-    (stored-client (st .pre .1 .0 .stored) (st .pre .0 .1) (le-refl _) (le-refl _), (c .before .before .record-length .ensures, c .before .cachable-in .ensures))
+    (stored-client (st .pre .1 .stored) (st .pre .0 .1) (le-refl _) (le-refl _), (c .before .before .record-length .ensures, c .before .cachable-in .ensures))
 
 depth-word-requires : tie.Need-depth-word-requires Inv-loop μ-loop
-depth-word-requires c κs = let st = start (part (c .before)) in stored-node (st .pre .1 .0 .stored) (st .pre .0 .1)
+depth-word-requires c κs = let st = start (part (c .before)) in stored-node (st .pre .1 .stored) (st .pre .0 .1)
 
 loop-holds : tie.Need-loop-holds Inv-loop μ-loop
 loop-holds c =
     let st = start (part (c .before .before)) in
-    let table = st .pre .1 .0 in
-    let deep = c .depth-word .ensures ∙ table .stored .words .depth _ (in-tree (table .stored .room) (st .pre .0 .1)) in
-    (omega (arith, deep), climb-begins (table .stored .room) (st .pre .0 .1) deep, rw deep (filled-none (node-begins _ table)))
+    let table = st .pre .1 in
+    let deep = c .depth-word .ensures ∙ table .stored .words .depth _ (st .pre .0 .1) in
+    (omega (arith, deep), climb-begins (table .stored .room) (st .pre .0 .1) deep, rw deep (filled-none (node-begins (st .pre .0 .0) table)))
 
 sub-a : tie.Need-sub-a Inv-loop μ-loop
 sub-a c = omega arith
@@ -92,7 +94,12 @@ fill-one-requires c κs =
     let above = other .before .before in
     let own = member (loop above) in
     let st = start (part own) in
-    (next-line _ (above .before .loop-test .taken) (loop above .loop .inv .2 .table), (st .pre .1 .1, (up above, (own .pays-itself .ensures, other .pays .ensures))))
+    record {
+      table = next-line _ (above .before .loop-test .taken) (loop above .loop .inv .2 .table);
+      served = up above;
+      pays-itself = own .pays-itself .ensures;
+      pays-above = other .pays .ensures;
+    }
 
 loop-less : tie.Need-loop-less Inv-loop μ-loop
 loop-less c = omega arith
@@ -114,7 +121,7 @@ returns : tie.Need-returns Inv-loop μ-loop
 returns c =
     let l = c .before .loop in
     let all : l .a ≡ 0 = omega arith in
-    rw all at (l .inv .2)
+    node-ends (start (part (member (c .before))) .pre .0 .0) (rw all at (l .inv .2))
 
 pub fill-node-spec : {M : Type 1} → statement M
 fill-node-spec =

@@ -1,30 +1,32 @@
 -- `fill_table`: stores all lines, from the last node's to the first's.
-use mathlib.Core.Path.{_≡_, _∙_}
+use mathlib.Core.Path.{_≡_}
 use Prim.Native.Nat.{_≤_, _<_}
 use native.Mathlib.Nat.{le-refl}
 use native.Mathlib.Omega.{arith}
-use Rattle.model.specs.File.{treeOf}
+use Rattle.model.specs.File.{treeOf, budgetOf}
 use Rattle.best_rows.specs.Guarded.{mayBe}
-use Rattle.node_words.proofs.Words.{room-some}
-use Rattle.table.specs.Table.{lineNumber, LinesFilled}
-use Rattle.table.proofs.Room.{room-long, room-place, room-nodes}
+use Rattle.places.specs.Places.{startAt}
+use Rattle.table.specs.Table.{LinesFilled}
+use Rattle.table.proofs.Room.{room-sound}
 use Rattle.table.proofs.Fill.{table-begins, next-node, table-whole, filled-none, filled-then}
 use Rattle.table.proofs.fill_table.Statement.{statement}
 use Rattle.table.proofs.fill_table.Tie as tie
 
 abbrev Inv-loop : tie.InvT-loop
-Inv-loop file tree s₀ counts v₀ s v = (0 < v) × (v ≤ tree .nodes) × LinesFilled file (mayBe (treeOf file)) tree (lineNumber tree v 0) s₀ s
+Inv-loop file n s₀ starts widths v₀ s v =
+    (0 < v) × (v ≤ n) × LinesFilled file (mayBe (treeOf file)) starts widths (startAt (treeOf file) (budgetOf file) v) s₀ s
 
 abbrev μ-loop : tie.MeasureT-loop
-μ-loop file tree s₀ counts v₀ s v = v
+μ-loop file n s₀ starts widths v₀ s v = v
 
-fill-empty-requires : tie.Need-fill-empty-requires Inv-loop μ-loop
-fill-empty-requires c κs = let r = c .before .before .before .before .pre .0 .room in (room-place r (room-some (room-nodes r)) (omega arith), room-long r)
+-- the start, seen from the loop's state
+abbrev start : tie.At-loop Inv-loop μ-loop → tie.Start Inv-loop μ-loop
+start c = c .before .before .before .before .before
 
 loop-holds : tie.Need-loop-holds Inv-loop μ-loop
 loop-holds c =
-    let st = c .before .before .before .before .before .before .before in
-    (room-some (room-nodes (st .pre .0 .room)), le-refl _, filled-none (table-begins (st .pre .0) (c .before .before .fill-empty .ensures) .table))
+    let st = c .before .before .before .before in
+    (omega (arith, st .pre .0, room-sound (st .pre .1 .room) .some), le-refl _, rw (st .pre .0) (filled-none (table-begins (st .pre .1))))
 
 sub-v : tie.Need-sub-v Inv-loop μ-loop
 sub-v c = omega arith
@@ -33,8 +35,7 @@ fill-node-requires : tie.Need-fill-node-requires Inv-loop μ-loop
 fill-node-requires c κs =
     let l = c .before .before .loop in
     let more = c .before .loop-test .taken in
-    let st = c .before .before .before .before .before .before .before .before .before .before in
-    ((omega (arith, more), omega (arith, more, l .inv .1)), (next-node (l .inv .0) (l .inv .2 .table), st .pre .1))
+    ((omega (arith, more), omega (arith, more, l .inv .1, start (c .before .before) .pre .0)), next-node (l .inv .0) (l .inv .2 .table))
 
 loop-less : tie.Need-loop-less Inv-loop μ-loop
 loop-less c = omega arith
@@ -47,28 +48,15 @@ loop-again c =
     (omega (arith, more), omega (arith, l .inv .1), filled-then (l .inv .2) (node .fill-node .ensures))
 
 same-length : tie.Need-same-length Inv-loop μ-loop
-same-length c =
-    let l = c .before .loop in
-    l .inv .2 .front .long ∙ c .before .before .before .before .fill-empty .ensures .front .long
+same-length c = c .before .loop .inv .2 .front .long
 
 returns : tie.Need-returns Inv-loop μ-loop
 returns c =
     let l = c .before .loop in
-    let st = c .before .before .before .before .before .before .before .before .before in
     let all : l .v ≡ 1 = omega (arith, l .inv .0) in
-    table-whole (filled-then (table-begins (st .pre .0) (c .before .before .before .before .fill-empty .ensures)) (rw all at (l .inv .2)))
+    table-whole (rw all at (l .inv .2))
 
 pub fill-table-spec : {M : Type 1} → statement M
 fill-table-spec =
     tie.close
-    (tie.spec
-    Inv-loop
-    μ-loop
-    fill-empty-requires
-    loop-holds
-    sub-v
-    fill-node-requires
-    loop-less
-    loop-again
-    same-length
-    returns)
+    (tie.spec Inv-loop μ-loop loop-holds sub-v fill-node-requires loop-less loop-again same-length returns)

@@ -1,48 +1,51 @@
 -- `line_at`: the index of the first entry of the line of node x with a serving node at depth a.
-use mathlib.Core.Path.{ap}
+use mathlib.Core.Path.{_≡_, sym}
 use Prim.Native.Nat.{_+_, _*_}
 use native.Mathlib.Omega.{arith}
 use borrow.Author.Needs.{needs}
-use Rattle.node_words.specs.Words.{nodeWords}
-use Rattle.table.specs.Table.{lineNumber, lineAt}
-use Rattle.table.proofs.Places.{rows-small, place-small}
+use Rattle.table.specs.Table.{lineAt}
+use Rattle.table.proofs.Places.{line-none, line-noted}
 use Rattle.table.proofs.line_at.Statement.{statement}
 use Rattle.table.proofs.line_at.Tie as tie
 
-mul-result : tie.Need-mul-result
-mul-result c = search needs
-
-add-result : tie.Need-add-result
-add-result c = search needs
-
-mul-result-2 : tie.Need-mul-result-2
-mul-result-2 c = omega (arith, rows-small (c .before .before .pre))
-
-add-result-2 : tie.Need-add-result-2
-add-result-2 c = omega (arith, rows-small (c .before .before .pre))
-
-width-requires : tie.Need-width-requires
-width-requires c κs = search needs
-
-mul-result-3 : tie.Need-mul-result-3
-mul-result-3 c = omega (arith, place-small (c .before .before .before .pre) (c .width .ensures))
-
-add-result-3 : tie.Need-add-result-3
-add-result-3 c = omega (arith, place-small (c .before .before .before .pre) (c .width .ensures))
+-- what is read is the index
+is : (c : tie.After-width-of) → let a = c .before .before .before .before .before .before .args in
+    c .before .index .result + a .a * c .width-of .result ≡ lineAt (a .starts .now) (a .widths .now) (a .x) (a .a)
+is c = line-noted _ _ _ (omega arith) (c .before .index .ensures) (c .width-of .ensures)
 
 returns : tie.Need-returns
-unfolding lineAt
-returns c = let st = c .before .before .before in ap (λ w. nodeWords * st .args .tree .nodes + lineNumber (st .args .tree) (st .args .x) (st .args .a) * w) (c .width .ensures)
+returns c = sym (line-none _ _ _ (omega arith))
+
+mul-index : tie.Need-mul-index
+mul-index c = search needs
+
+shared-slice-read-index : tie.Need-shared-slice-read-index
+shared-slice-read-index c = search needs
+
+index-requires : tie.Need-index-requires
+index-requires c κs = search needs
+
+width-of-requires : tie.Need-width-of-requires
+width-of-requires c κs = search needs
+
+mul-result : tie.Need-mul-result
+mul-result c = omega (arith, is c, c .before .before .before .before .before .before .pre .2)
+
+add-result : tie.Need-add-result
+add-result c = omega (arith, is c, c .before .before .before .before .before .before .pre .2)
+
+returns-2 : tie.Need-returns-2
+returns-2 c = is c
 
 pub line-at-spec : {M : Type 1} → statement M
 line-at-spec =
     tie.close
     (tie.spec
+    returns
+    mul-index
+    shared-slice-read-index
+    index-requires
+    width-of-requires
     mul-result
     add-result
-    mul-result-2
-    add-result-2
-    width-requires
-    mul-result-3
-    add-result-3
-    returns)
+    returns-2)

@@ -1,0 +1,3 @@
+pub mod Places
+mod Counting
+mod Placing
