@@ -10,8 +10,9 @@
  * its client and its link count like any other's. In versions 1 and 2 each node is open. No accepted file is longer than
  * KTERC_FILE_BYTES, 13,321.
  *
- * Scratch. Words of 64 bits, n * (h + 1) * (k + 1) + 4 * n of them, where h is the tree's height; kterc_scratch_words says how
- * many, and at most KTERC_SCRATCH_WORDS are asked. What they hold before a call does not matter. After an accepted call these
+ * Scratch. Words of 64 bits: 4 * n of them and, for each node v from 1 on, depth(v) * (min(k, r(v)) + 1), where depth(v) is the
+ * number of links from v to the server, and r(v) the number of nodes, closed ones too, at or below v and at or below its later
+ * siblings. kterc_scratch_words says how many these are for a file, and at most KTERC_SCRATCH_WORDS are asked. What they hold before a call does not matter. After an accepted call these
  * words may hold anything; the words beyond them stay.
  *
  * Answers. Node numbers are of 16 bits, totals and loads of 64 bits in thousandths. Arrays may be longer than asked: entries
@@ -33,19 +34,19 @@
 extern "C" {
 #endif
 
-/* The largest sizes that a tree file can have, its bytes among them, and the most words of scratch that rule 13 can ask for. */
+/* The largest sizes that a tree file can have, its bytes among them, and words of scratch that are enough for every accepted file. */
 #define KTERC_NODES 1024
 #define KTERC_BUDGET 32
 #define KTERC_DEPTH 32
 #define KTERC_FILE_BYTES (9 + 13 * KTERC_NODES)
-#define KTERC_SCRATCH_WORDS (KTERC_NODES * (KTERC_DEPTH + 1) * (KTERC_BUDGET + 1) + 4 * KTERC_NODES)
+#define KTERC_SCRATCH_WORDS ((KTERC_NODES - 1) * KTERC_DEPTH * (KTERC_BUDGET + 1) + 4 * KTERC_NODES)
 
 /* The stack of each call, in bytes. */
 #define KTERC_CHECK_STACK (16 * 1024)
-#define KTERC_SCRATCH_WORDS_STACK (24 * 1024)
+#define KTERC_SCRATCH_WORDS_STACK (28 * 1024)
 #define KTERC_BILL_STACK (16 * 1024)
 #define KTERC_PLAN_STACK (40 * 1024)
-#define KTERC_GREEDY_STACK (24 * 1024)
+#define KTERC_GREEDY_STACK (28 * 1024)
 #define KTERC_REPORT_STACK (40 * 1024)
 
 #define KTERC_RULE(answer) ((answer) % 256)

@@ -1,5 +1,6 @@
-/* The proved library against the reference in C: random trees of every size in each version, damaged files, buffers of wrong
- * lengths, and guard words around all that is lent. Stops at the first difference. Then the stack that the calls take. */
+/* The proved library against the reference in C: random trees of every size in each version, trees of every shape with just the
+ * words of scratch that are asked and with one less, damaged files, buffers of wrong lengths, and guard words around all that is
+ * lent. Stops at the first difference. Then the stack that the calls take. */
 #include <inttypes.h>
 #include <stdio.h>
 #include <stdlib.h>
@@ -14,10 +15,13 @@
 /* In each version: trees of one size and of few nodes, and damaged files of each tree. */
 enum { EACH_SIZE = 2, SMALL = 2000, SMALL_NODES = 9, DAMAGED = 4 };
 
+_Static_assert(KTERC_SCRATCH_WORDS == SCRATCH_WORDS, "the most words of scratch");
+
 static uint64_t seed = 20000601;
 
-/* Trees of the version at hand and of them those enumerated; files, sets with a closed node and calls of all versions. */
-static struct { long trees, enumerated, damaged, closed, calls, refused; } count;
+/* Trees of the version at hand and of them those enumerated; trees at the boundary of rule 13, files, sets with a closed node and
+ * calls of all versions. */
+static struct { long trees, enumerated, boundary, damaged, closed, calls, refused; } count;
 
 /* The tree at hand, its file and what the reference says of it; and the same before the file was damaged. */
 static struct {
@@ -81,9 +85,9 @@ static const uint16_t *plan_rows(void)
     return rows;
 }
 
-static void try_plan(void)
+static void try_plan(size_t words)
 {
-    size_t k = at.k, words = vary(at.words), t = vary(k + 1), r = vary((k + 1) * k);
+    size_t k = at.k, t = vary(k + 1), r = vary((k + 1) * k);
     struct lent scratch = lend(words, 8, &seed), totals = lend(t, 8, &seed), rows = lend(r, 2, &seed);
     uint32_t answer = kterc_plan(at.file, at.length, (uint64_t *)scratch.memory, words, (uint64_t *)totals.memory, t,
                                  (uint16_t *)rows.memory, r);
@@ -93,9 +97,9 @@ static void try_plan(void)
     check_scratch(&scratch, answer);
 }
 
-static void try_greedy(void)
+static void try_greedy(size_t words)
 {
-    size_t k = at.k, words = vary(at.words), t = vary(k + 1), r = vary(k);
+    size_t k = at.k, t = vary(k + 1), r = vary(k);
     struct lent scratch = lend(words, 8, &seed), totals = lend(t, 8, &seed), nodes = lend(r, 2, &seed);
     uint32_t answer = kterc_greedy(at.file, at.length, (uint64_t *)scratch.memory, words, (uint64_t *)totals.memory, t,
                                    (uint16_t *)nodes.memory, r);
@@ -105,9 +109,9 @@ static void try_greedy(void)
     check_scratch(&scratch, answer);
 }
 
-static void try_report(void)
+static void try_report(size_t words)
 {
-    size_t k = at.k, words = vary(at.words), t = vary(k + 1), r = vary((k + 1) * k), g = vary(k + 1), s = vary(k);
+    size_t k = at.k, t = vary(k + 1), r = vary((k + 1) * k), g = vary(k + 1), s = vary(k);
     struct lent scratch = lend(words, 8, &seed), totals = lend(t, 8, &seed), rows = lend(r, 2, &seed);
     struct lent greedy_totals = lend(g, 8, &seed), greedy_nodes = lend(s, 2, &seed);
     uint32_t answer = kterc_report(at.file, at.length, (uint64_t *)scratch.memory, words, (uint64_t *)totals.memory, t,
@@ -163,9 +167,9 @@ static void try_file(void)
 {
     check_that(kterc_check(at.file, at.length) == at.code % 256, "the check");
     check_that(kterc_scratch_words(at.file, at.length) == (at.code ? 0 : at.words), "the words of scratch");
-    try_plan();
-    try_greedy();
-    try_report();
+    try_plan(vary(at.words));
+    try_greedy(vary(at.words));
+    try_report(vary(at.words));
     try_sets();
 }
 
@@ -174,17 +178,27 @@ static void read_file(void)
     at.code = planner.read(at.file, at.length, &at.tree);
     if (at.code) return; /* sizes stay those of the tree before: lengths to lend */
     at.n = at.tree.n, at.k = at.tree.k;
-    at.words = at.n * (at.tree.h + 1) * (at.k + 1) + 4 * at.n;
+    at.words = planner.words(&at.tree);
 }
 
+static void same_plan(const struct plan *other, const char *what)
+{
+    for (size_t b = 0; b <= at.k; b++)
+        check_that(at.plan.total[b] == other->total[b] && !memcmp(at.plan.row[b], other->row[b], sizeof other->row[b]), what);
+}
+
+/* The reference's three ways to fill the table against each other, the packed one in just the words asked. */
 static void solve(void)
 {
-    static uint64_t scratch[SCRATCH_WORDS];
+    static uint64_t table[FILL_WORDS];
     static struct plan other;
-    planner.plan(&at.tree, scratch, RUNS, &at.plan);
-    planner.plan(&at.tree, scratch, SPLITS, &other);
-    for (size_t b = 0; b <= at.k; b++)
-        check_that(at.plan.total[b] == other.total[b] && !memcmp(at.plan.row[b], other.row[b], sizeof other.row[b]), "the reference");
+    struct lent scratch = lend(at.words, 8, &seed);
+    planner.plan(&at.tree, table, RUNS, &at.plan);
+    planner.plan(&at.tree, table, SPLITS, &other);
+    same_plan(&other, "the reference");
+    planner.plan(&at.tree, (uint64_t *)scratch.memory, PACKED, &other);
+    same_plan(&other, "the reference with a packed table");
+    check_scratch(&scratch, 0);
     planner.greedy(&at.tree, &at.greedy);
 }
 
@@ -212,9 +226,30 @@ static void enumerate(void)
 {
     static struct plan all;
     planner.enumerate(&at.tree, &all);
-    for (size_t b = 0; b <= at.k; b++)
-        check_that(at.plan.total[b] == all.total[b] && !memcmp(at.plan.row[b], all.row[b], sizeof all.row[b]), "the enumeration");
+    same_plan(&all, "the enumeration");
     count.enumerated++;
+}
+
+/* Just the words that rule 13 asks for, one less and one more, for each call. */
+static void try_words(void)
+{
+    for (size_t words = at.words - 1; words <= at.words + 1; words++)
+        try_plan(words), try_greedy(words), try_report(words);
+    count.boundary++;
+}
+
+/* From one node to all, and from no caches to more than the tree has nodes. */
+static void try_boundary(int version)
+{
+    static const int nodes[] = { 1, 2, 3, 6, 20, 33, 34, 70, 300, NODES }, budgets[] = { 0, 1, 2, 5, 19, BUDGET };
+    for (size_t i = 0; i < sizeof nodes / sizeof *nodes * SHAPES; i++)
+        for (size_t j = 0; j < sizeof budgets / sizeof *budgets; j++) {
+            at.length = shaped_tree(at.file, version, i % SHAPES, nodes[i / SHAPES], budgets[j], &seed);
+            read_file();
+            check_that(!at.code && at.words <= KTERC_SCRATCH_WORDS, "the words of scratch of a tree file");
+            solve();
+            try_words();
+        }
 }
 
 static void try_version(int version)
@@ -225,6 +260,7 @@ static void try_version(int version)
     for (int n = 1; n <= NODES; n++)
         for (int i = 0; i < EACH_SIZE; i++)
             try_tree(version, n);
+    try_boundary(version);
     printf("version %d: %ld random trees of 1 to %d nodes, %ld of them of at most %d nodes and enumerated\n", version,
            count.trees, NODES, count.enumerated, SMALL_NODES);
 }
@@ -233,6 +269,7 @@ int main(void)
 {
     for (int version = 1; version <= VERSIONS; version++)
         try_version(version);
+    printf("%ld trees of every shape with just the words of scratch asked, one less and one more\n", count.boundary);
     printf("%ld damaged files\n", count.damaged);
     printf("%ld sets with a closed node, refused by rule 12\n", count.closed);
     printf("%ld calls, %ld of them refused, with guards around every buffer\n", count.calls, count.refused);

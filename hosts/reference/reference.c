@@ -89,22 +89,66 @@ static void link_rows(struct tree *t)
     }
 }
 
+/* ---- the words of scratch */
+
+/* The nodes at or below each node and at or below its later siblings, from the last node down: `below` has those of a node's
+ * children that came by. */
+static void count_rows(struct tree *t)
+{
+    int below[NODES] = { 0 };
+    for (int v = t->n - 1; v > 0; v--)
+        t->row_nodes[v] = below[t->parent[v]] += 1 + below[v];
+}
+
+/* How many entries a line of the row that begins with v has, with a place for each number of caches that the row can have. */
+static int packed_width(const struct tree *t, int v) { return min(t->k, t->row_nodes[v]) + 1; }
+
+static size_t scratch_words(struct tree *t)
+{
+    size_t words = 4 * (size_t)t->n;
+    count_rows(t);
+    for (int v = 1; v < t->n; v++)
+        words += t->depth[v] * packed_width(t, v);
+    return words;
+}
+
 /* ---- the table: the least of the row that begins with v, with exactly m caches, its nearest cache above at depth a */
 
+/* The places of a packed table. */
+static void place_lines(struct tree *t)
+{
+    size_t at = 4 * (size_t)t->n;
+    count_rows(t);
+    for (int v = 1; v < t->n; v++) {
+        t->start[v] = at;
+        t->width[v] = packed_width(t, v);
+        at += t->depth[v] * t->width[v];
+    }
+}
+
+/* The row of no nodes has one line, at no place. */
 static const uint64_t no_row[BUDGET + 1] = { 0,    NONE, NONE, NONE, NONE, NONE, NONE, NONE, NONE, NONE, NONE,
                                              NONE, NONE, NONE, NONE, NONE, NONE, NONE, NONE, NONE, NONE, NONE,
                                              NONE, NONE, NONE, NONE, NONE, NONE, NONE, NONE, NONE, NONE, NONE };
 
-static inline const uint64_t *line(const struct tree *t, const uint64_t *table, int v, int a)
+/* How a table is filled is known wherever a line is read, so that neither layout pays for the other. */
+static inline const uint64_t *line(const struct tree *t, const uint64_t *table, int v, int a, enum fill fill)
 {
-    return v ? table + ((size_t)v * (t->h + 1) + a) * (t->k + 1) : no_row;
+    if (!v) return no_row;
+    return fill == PACKED ? table + t->start[v] + (size_t)a * t->width[v] : table + ((size_t)v * (t->h + 1) + a) * (t->k + 1);
+}
+
+/* An entry of a line, NONE where the line has no place for so many caches. */
+static inline uint64_t entry(const struct tree *t, const uint64_t *table, int v, int a, int m, enum fill fill)
+{
+    return fill == PACKED && v && m >= t->width[v] ? NONE : line(t, table, v, a, fill)[m];
 }
 
 /* The most caches that can be had: among a node's descendants, with the node itself, among its later siblings, in the row. */
 struct counts { int below, top, later, all; };
 
-/* A row's line from those of its first node and of the later siblings. */
-static inline void join_splits(int k, struct counts c, const uint64_t *node, const uint64_t *rest, uint64_t *out)
+/* A row's line, with entries 0 to `last`, from those of its first node and of the later siblings. */
+static inline void join_splits(int last, struct counts c, const uint64_t *node, const uint64_t *rest, uint64_t *out)
 {
     for (int m = 0; m <= c.all; m++) {
         int from = m > c.later ? m - c.later : 0, to = min(m, c.top);
@@ -115,21 +159,21 @@ static inline void join_splits(int k, struct counts c, const uint64_t *node, con
         }
         out[m] = best;
     }
-    for (int m = c.all + 1; m <= k; m++)
+    for (int m = c.all + 1; m <= last; m++)
         out[m] = NONE;
 }
 
-static inline void join_runs(int k, struct counts c, const uint64_t *node, const uint64_t *rest, uint64_t *restrict out)
+static inline void join_runs(int last, struct counts c, const uint64_t *node, const uint64_t *rest, uint64_t *restrict out)
 {
     const uint64_t *p = node, *q = rest; /* p the shorter */
     int lp = c.top, lq = c.later;
     if (lp > lq) p = rest, q = node, lp = c.later, lq = c.top;
     for (int j = 0; j <= lq; j++)
         out[j] = p[0] + q[j];
-    for (int j = lq + 1; j <= k; j++)
+    for (int j = lq + 1; j <= last; j++)
         out[j] = NONE;
     for (int i = 1; i <= lp; i++) {
-        int end = min(lq, k - i);
+        int end = min(lq, last - i);
         uint64_t x = p[i];
         for (int j = 0; j <= end; j++) {
             uint64_t sum = x + q[j], old = out[i + j];
@@ -138,35 +182,58 @@ static inline void join_runs(int k, struct counts c, const uint64_t *node, const
     }
 }
 
+/* The same where the first node has no children: its own line has one entry, or two where a cache may stand. */
+static inline void join_leaf(int last, struct counts c, uint64_t plain, uint64_t cached, const uint64_t *rest, uint64_t *restrict out)
+{
+    uint64_t before = rest[0];
+    out[0] = plain + before;
+    for (int m = 1; m <= c.later; m++) {
+        uint64_t here = rest[m], without = plain + here, with = cached + before;
+        out[m] = with < without ? with : without;
+        before = here;
+    }
+    if (c.all > c.later) out[c.all] = cached + before;
+    for (int m = c.all + 1; m <= last; m++)
+        out[m] = NONE;
+}
+
 /* What a node's client costs with a cache there, NONE where none may stand. */
 static inline uint64_t own_cost(const struct tree *t, int v)
 {
     return t->open[v] ? (t->full[v] - t->cachable[v]) * t->dist[v] : NONE;
 }
 
-/* A node's own line from those of its children, for each depth of the nearest cache above, then the row's. */
+/* A node's own line from those of its children, for each depth of the nearest cache above, then the row's. In a packed table the
+ * last of a row is a row by itself, and its own line is written at once. */
 static inline void fill_node(const struct tree *t, uint64_t *table, int v, enum fill fill)
 {
-    int k = t->k, next = t->next[v], first = t->first[v], serving[DEPTH + 1];
+    int k = t->k, last = fill == PACKED ? t->width[v] - 1 : k, next = t->next[v], first = t->first[v], serving[DEPTH + 1];
     for (int u = v, a = t->depth[v]; a >= 0; a--, u = t->parent[u])
         serving[a] = u;
     struct counts c = { min(k, t->size[v] - t->open[v]), min(k, t->size[v]), next ? min(k, t->row[next]) : 0, min(k, t->row[v]) };
-    const uint64_t *under = line(t, table, first, t->depth[v]);
+    const uint64_t *under = line(t, table, first, t->depth[v], fill);
     uint64_t base = t->full[v] * t->dist[v], cached = own_cost(t, v);
-    uint64_t with[BUDGET + 1], node[BUDGET + 1];
+    uint64_t with[BUDGET + 1], apart[BUDGET + 1];
     for (int m = 1; m <= c.top; m++)
         with[m] = cached + under[m - 1];
     for (int a = 0; a < t->depth[v]; a++) {
-        const uint64_t *spare = line(t, table, first, a), *rest = line(t, table, next, a);
-        uint64_t *out = (uint64_t *)line(t, table, v, a), plain = base - t->cachable[v] * t->dist[serving[a]];
+        const uint64_t *spare = line(t, table, first, a, fill), *rest = line(t, table, next, a, fill);
+        uint64_t *out = (uint64_t *)line(t, table, v, a, fill), plain = base - t->cachable[v] * t->dist[serving[a]];
+        uint64_t *node = fill == PACKED && !next ? out : apart;
+        if (fill == PACKED && !first) {
+            join_leaf(last, c, plain, cached, rest, out);
+            continue;
+        }
         node[0] = plain + spare[0];
         for (int m = 1; m <= c.below; m++) {
             uint64_t x = plain + spare[m];
             node[m] = x < with[m] ? x : with[m];
         }
         if (c.top > c.below) node[c.top] = with[c.top];
-        if (fill == RUNS) join_runs(k, c, node, rest, out);
-        else join_splits(k, c, node, rest, out);
+        if (fill == SPLITS) join_splits(last, c, node, rest, out);
+        else if (node == apart) join_runs(last, c, node, rest, out);
+        else
+            for (int m = c.all + 1; m <= last; m++) out[m] = NONE;
     }
 }
 
@@ -174,48 +241,65 @@ static inline void fill_node(const struct tree *t, uint64_t *table, int v, enum 
 
 static inline uint64_t capped(uint64_t pays, uint64_t children) { return children >= NONE ? NONE : pays + children; }
 
-static uint16_t *walk(const struct tree *t, const uint64_t *table, int v, int up, int m, uint16_t *out)
+static uint16_t *walk_equal(const struct tree *t, const uint64_t *table, int v, int up, int m, uint16_t *out);
+static uint16_t *walk_packed(const struct tree *t, const uint64_t *table, int v, int up, int m, uint16_t *out);
+
+static inline __attribute__((always_inline)) uint16_t *walk(const struct tree *t, const uint64_t *table, int v, int up, int m,
+                                                            uint16_t *out, enum fill fill)
 {
     for (; v && m; v = t->next[v]) {
         int a = t->depth[up], here = min(m, t->size[v]), member = 0;
-        uint64_t base = t->full[v] * t->dist[v], least = line(t, table, v, a)[m];
+        int first = t->first[v], next = t->next[v];
+        uint64_t base = t->full[v] * t->dist[v], least = entry(t, table, v, a, m, fill);
         uint64_t plain = base - t->cachable[v] * t->dist[up], cached = own_cost(t, v);
-        const uint64_t *spare = line(t, table, t->first[v], a), *under = line(t, table, t->first[v], t->depth[v]);
-        const uint64_t *rest = line(t, table, t->next[v], a);
         for (; here > 0; here--) {
-            uint64_t without = capped(plain, spare[here]), with = capped(cached, under[here - 1]);
+            uint64_t without = capped(plain, entry(t, table, first, a, here, fill));
+            uint64_t with = capped(cached, entry(t, table, first, t->depth[v], here - 1, fill));
             member = with <= without;
-            if ((member ? with : without) + rest[m - here] == least) break;
+            if ((member ? with : without) + entry(t, table, next, a, m - here, fill) == least) break;
         }
         if (here && member) {
             *out++ = v;
-            out = walk(t, table, t->first[v], v, here - 1, out);
+            out = (fill == PACKED ? walk_packed : walk_equal)(t, table, first, v, here - 1, out);
         } else if (here) {
-            out = walk(t, table, t->first[v], up, here, out);
+            out = (fill == PACKED ? walk_packed : walk_equal)(t, table, first, up, here, out);
         }
         m -= here;
     }
     return out;
 }
 
+static uint16_t *walk_equal(const struct tree *t, const uint64_t *table, int v, int up, int m, uint16_t *out)
+{
+    return walk(t, table, v, up, m, out, RUNS);
+}
+
+static uint16_t *walk_packed(const struct tree *t, const uint64_t *table, int v, int up, int m, uint16_t *out)
+{
+    return walk(t, table, v, up, m, out, PACKED);
+}
+
 static void make_plan(struct tree *t, uint64_t *scratch, enum fill fill, struct plan *p)
 {
     link_rows(t);
-    if (fill == RUNS)
+    if (fill == PACKED) place_lines(t);
+    if (fill == PACKED)
+        for (int v = t->n - 1; v > 0; v--) fill_node(t, scratch, v, PACKED);
+    else if (fill == RUNS)
         for (int v = t->n - 1; v > 0; v--) fill_node(t, scratch, v, RUNS);
     else
         for (int v = t->n - 1; v > 0; v--) fill_node(t, scratch, v, SPLITS);
-    const uint64_t *exact = line(t, scratch, t->first[0], 0);
-    int best = 0;
+    uint64_t best = entry(t, scratch, t->first[0], 0, 0, fill);
     for (int b = 0; b <= t->k; b++) {
-        if (b == 0 || exact[b] < exact[best]) {
-            best = b;
-            uint16_t *end = walk(t, scratch, t->first[0], 0, b, p->row[b]);
+        uint64_t exact = entry(t, scratch, t->first[0], 0, b, fill);
+        if (b == 0 || exact < best) {
+            best = exact;
+            uint16_t *end = (fill == PACKED ? walk_packed : walk_equal)(t, scratch, t->first[0], 0, b, p->row[b]);
             memset(end, 0, (p->row[b] + BUDGET - end) * sizeof *end);
         } else {
             memcpy(p->row[b], p->row[b - 1], sizeof p->row[b]);
         }
-        p->total[b] = exact[best];
+        p->total[b] = best;
     }
 }
 
@@ -336,4 +420,4 @@ static void enumerate(const struct tree *t, struct plan *p)
     }
 }
 
-const struct planner PLANNER = { read_tree, make_plan, make_greedy, make_bill, enumerate };
+const struct planner PLANNER = { read_tree, scratch_words, make_plan, make_greedy, make_bill, enumerate };
