@@ -1,12 +1,10 @@
--- Where records stand in preorder: the server's row holds every node from 1 on, in order, a next sibling comes after the nodes
--- below a site, and every row has fewer nodes than the tree.
+-- Where records stand in preorder: the server's row holds every node from 1 on, in order, and every row has fewer nodes than the
+-- tree.
 use mathlib.Core.Path.{_≡_, refl, sym, ap, _∙_}
 use mathlib.Core.Bool.{true, false}
 use mathlib.Core.List.{List, [], _∷_}
-use mathlib.Core.Logic.{⊎-elim}
 use Prim.Native.Nat.{ℕ, zero, suc, _+_, _≤_, _<_}
 use native.Mathlib.Decide.{decLe}
-use native.Mathlib.Nat.{add-zero}
 use native.Mathlib.Omega.{arith}
 use lib.ListN.{length}
 use Rattle.laws.specs.Lists.{range, has}
@@ -17,18 +15,8 @@ use Rattle.model.specs.Tree.{route}
 use Rattle.model.specs.Preorder.{Preorder}
 use Rattle.model.proofs.Routes.{route-server, parent-before, route-up, by-route, route-before}
 use Rattle.best_rows.specs.Rows.{Row, empty, node, rowNodes, rowSize}
-use Rattle.best_rows.specs.TreeRows.{rowAfter, nodesAfter, firstChild, nextSibling, rowAt}
-use Rattle.best_rows.proofs.TreeRows.{row-after-cases, row-after-child, row-after-other, row-at-first, row-at-node, next-sibling-stands}
-
--- what comes after the nodes of a row where all are numbered on
-after-row : (r : Row) (l : List ℕ) (i n : ℕ) → rowNodes r l ≡ range i n → l ≡ range (i + rowSize r) (length l)
-unfolding rowNodes rowSize range
-after-row empty l i n e = let all = ap length e ∙ length-range i n in rw (all, add-zero) e
-after-row (node v a b) l i zero e = absurd (omega (arith, ap length e))
-after-row (node v a b) l i (suc n) e =
-    let children = after-row a (rowNodes b l) (suc i) n (cc e) in
-    let first : suc i + rowSize a + rowSize b ≡ i + (1 + rowSize a + rowSize b) = omega arith in
-    rw (← first) (after-row b l (suc i + rowSize a) (length (rowNodes b l)) children)
+use Rattle.best_rows.specs.TreeRows.{rowAfter, nodesAfter, rowAt}
+use Rattle.best_rows.proofs.TreeRows.{row-after-cases, row-after-child, row-after-other}
 
 pub length-row-nodes : (r : Row) (l : List ℕ) → length (rowNodes r l) ≡ rowSize r + length l
 unfolding rowNodes rowSize
@@ -114,28 +102,13 @@ module _ (t : Tree) where
     unfolding rowsAlong
     server-row-whole n = rw (route-server t) at (rows-cover n 0)
 
-    -- ---- so a site's next sibling comes after the nodes below the site
+    -- ---- how many nodes a row has
 
     -- the rows along a route begin with the row of its first node's children
     along-first : (n i v : ℕ) → (rest : List ℕ) × (rowsAlong n i (route t v) ≡ rowNodes (rowAfter t n i v) rest)
     unfolding rowsAlong
     along-first n i zero = ([], rw (route-server t))
     along-first n i (suc v) = (rowsAlong n i (route t (t .parent (suc v))), rw (route-up t pre v))
-
-    pub next-sibling-is : (x : ℕ) → 0 < x → x < t .count → 0 < nextSibling t x
-        → nextSibling t x ≡ suc x + rowSize (rowAt t (firstChild t x))
-    unfolding rowsAlong rowNodes firstChild nextSibling range
-    next-sibling-is zero site fits some = absurd (omega arith)
-    next-sibling-is (suc i) site fits some =
-        let x = suc i in
-        let p = t .parent x in
-        let n = nodesAfter t x in
-        let stands : nextSibling t x < t .count = ⊎-elim (λ e. absurd (omega arith)) (λ s. s .1) (next-sibling-stands t x) in
-        let along = along-first n x p in
-        let nodes = rw (route-up t pre i, along .1, ← (row-at-first t n x p (omega arith)), row-at-node t (nextSibling t x) some stands) at (rows-cover n x) in
-        rw (row-at-first t n x x (omega arith)) (cc (after-row (rowAfter t n x x) _ (suc x) n nodes))
-
-    -- ---- how many nodes a row has
 
     row-on-route : (n i v : ℕ) → rowSize (rowAfter t n i v) ≤ length (rowsAlong n i (route t v))
     row-on-route n i v = let along = along-first n i v in rw (along .1, length-row-nodes (rowAfter t n i v) (along .0)) (omega arith)

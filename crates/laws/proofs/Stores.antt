@@ -2,8 +2,8 @@
 use mathlib.Core.Path.{_≡_, refl, sym, ap, _∙_}
 use mathlib.Core.List.{List, [], _∷_, _++_, append-assoc, map, flatMap}
 use mathlib.Core.Logic.{_⊎_, ⊎-elim}
-use Prim.Native.Nat.{ℕ, zero, suc, _+_, _*_, _≤_, _<_}
-use native.Mathlib.Nat.{add-suc, suc-add, zero-add, add-zero, suc-mul, zero-mul}
+use Prim.Native.Nat.{ℕ, zero, suc, _+_, _*_, _-_, _≤_, _<_}
+use native.Mathlib.Nat.{add-suc, suc-add, zero-add, add-zero, suc-mul, zero-mul, add-sub-cancel-left}
 use native.Mathlib.Numerals.{add-one}
 use native.Mathlib.Omega.{arith}
 use lib.ListN.{length, length-append, take, drop, set, getD, length-drop}
@@ -22,6 +22,10 @@ length-part l p w h = length-take-le w (drop p l) (simp length-drop (omega arith
 
 pub entry-of-part : (l : List ℕ) (p w j : ℕ) → j < w → getD (part l p w) j 0 ≡ getD l (p + j) 0
 entry-of-part l p w j h = getD-take w (drop p l) j 0 h ∙ getD-drop p l j 0
+
+-- a part lent as s[start .. start + w] has w entries
+pub part-long : (s : List ℕ) (start w : ℕ) → start + w ≤ length s → length (part s start (start + w - start)) ≡ w
+part-long s start w h = rw (add-sub-cancel-left start w) (length-part s start w h)
 
 -- a part is the end of a front of the list
 part-of-front : (w p : ℕ) (l : List ℕ) → take w (drop p l) ≡ drop p (take (p + w) l)

@@ -69,7 +69,7 @@ module _ (w : ℕ) (pay : Bool → ℕ) (children : Bool → ℕ → ℕ) (sibli
   unfolding lineTakes ownChoice better
   held-takes n h = rw (held-cost-if n h true, held-cost-if n h false)
 
-  pub held-node : (n : ℕ) → n < w → lineNode cached uncached (pay true) (pay false) n ≡ nodeBest prefer (costIf bit pay children) n
+  held-node : (n : ℕ) → n < w → lineNode cached uncached (pay true) (pay false) n ≡ nodeBest prefer (costIf bit pay children) n
   unfolding lineNode lineTakes nodeBest
   held-node n h = rw (held-takes n h) (held-cost-if n h (ownChoice prefer (costIf bit pay children) n))
 

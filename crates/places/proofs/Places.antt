@@ -33,10 +33,6 @@ module _ (t : Tree) (k : ℕ) where
   unfolding startAt
   start-later {x} {y} h = omega (arith, sum-fewer (wordsAt t k) 1 (x - 1) (y - 1) (omega arith))
 
-  -- the lines of x end before those of a later node begin
-  pub start-before : {x y : ℕ} → 0 < x → x < y → startAt t k x + wordsAt t k x ≤ startAt t k y
-  start-before {x} {y} site h = omega (arith, start-next site, start-later {x = x + 1} {y = y} (omega arith))
-
 -- the lines of an accepted file end with the words that rule 13 asks for
 pub words-are-end : (file : List ℕ) → fileVerdict file ≡ passed
     → startAt (treeOf file) (budgetOf file) (countOf file) ≡ scratchWords file

@@ -3,12 +3,10 @@ use mathlib.Core.Path.{_≡_, refl, sym, _∙_}
 use mathlib.Core.List.{List, _++_, map}
 use mathlib.Core.Logic.{_⊎_, inl, inr, ⊎-elim}
 use Prim.Native.Nat.{ℕ, _+_, _-_, _≤_, _<_, min}
-use native.Mathlib.Nat.{add-sub-cancel-left}
 use native.Mathlib.Omega.{arith}
 use lib.ListN.{length, take, drop, getD, replicate, length-replicate}
 use lib.Seq.{sets, length-sets}
 use Rattle.laws.specs.Lists.{range, part}
-use Rattle.laws.proofs.Stores.{length-part}
 use Rattle.laws.proofs.FrontValues.{same-on-range}
 use Rattle.model.specs.File.{treeOf, demandOf, countOf, budgetOf}
 use Rattle.model.proofs.Accepted.{accepted-header}
@@ -28,10 +26,6 @@ use Rattle.table.proofs.Lines.{pays-itself, pays-above, width-within, s
 use Rattle.table.proofs.Room.{width-none, room-sound, room-width, room-line, room-place}
 use Rattle.table.proofs.Reading.{length-line, own-place, children-place, siblings-place, lines-hold-best}
 
--- a part lent as s[start .. start + w] has w entries
-pub part-long : (s : List ℕ) (start w : ℕ) → start + w ≤ length s → length (take (start + w - start) (drop start s)) ≡ w
-part-long s start w h = rw (add-sub-cancel-left start w) (length-part s start w h)
-
 module _ {file starts widths s : List ℕ} {v a u member other : ℕ} (r : LineToFill file starts widths s v a u member other) where
   -- the lines of children and later siblings are there
   pub filled-before : placeOf (treeOf file) (budgetOf file) v (a + 1) ≤ startAt (treeOf file) (budgetOf file) (v + 1)
@@ -44,7 +38,7 @@ module _ {file starts widths s : List ℕ} {v a u member other : ℕ} (r : LineT
   line-in = room-place (r .table .stored .room) v a (r .served .node) (λ _. r .served .above)
 
   module _ {w : ℕ} (e : w ≡ getD widths v 0) where
-    pub line-width : w ≡ widthAt (treeOf file) (budgetOf file) v
+    line-width : w ≡ widthAt (treeOf file) (budgetOf file) v
     line-width = e ∙ room-width (r .table .stored .room) v (r .served .node)
 
     pub line-some : 0 < w
@@ -101,7 +95,7 @@ module _ {file starts widths s : List ℕ} {v a u member other : ℕ} (r : LineT
       place = g ∙ room-line (r .table .stored .room) v a (r .served .node)
 
       -- stored where it is to stand
-      pub line-set : sets s start l ≡ withLine file s v a
+      line-set : sets s start l ≡ withLine file s v a
       line-set = rw (made, place)
 
       -- or made there

@@ -1,5 +1,5 @@
 -- What holds of the scratch of an accepted file: the places of its lines, the words of its nodes, and that a line stored keeps both.
-use mathlib.Core.Path.{_≡_, refl, sym, ap, ap₂}
+use mathlib.Core.Path.{_≡_, refl, sym, ap₂}
 use mathlib.Core.List.{List}
 use Prim.Native.Nat.{ℕ, zero, suc, _+_, _*_, _≤_, _<_}
 use native.Mathlib.Omega.{arith}
@@ -53,7 +53,7 @@ module _ {file starts widths s : List ℕ} (r : TableRoom file starts widths s) 
     pub room-width : getD widths x 0 ≡ widthAt (treeOf file) (budgetOf file) x
     room-width = r .places .width x node
 
-    pub room-noted : (x < length starts) × (x < length widths)
+    room-noted : (x < length starts) × (x < length widths)
     room-noted = (omega (arith, r .places .long .0), omega (arith, r .places .long .1))
 
   pub room-line : (x a : ℕ) → x < countOf file → lineAt starts widths x a ≡ placeOf (treeOf file) (budgetOf file) x a

@@ -1,5 +1,4 @@
 -- `later`: how many of a row's m caches are among the later siblings: the smallest number at which the split costs the least.
-use mathlib.Core.Path.{_≡_}
 use Prim.Native.Nat.{ℕ, _-_, _≤_, _<_}
 use native.Mathlib.Omega.{arith}
 use borrow.Author.Needs.{needs}

@@ -3,10 +3,11 @@ use Prim.Native.Nat.{_+_, _≤_}
 use native.Mathlib.Omega.{arith}
 use lib.ListN.{length}
 use borrow.Author.Needs.{needs}
+use Rattle.laws.proofs.Stores.{part-long}
 use Rattle.lines.specs.Line.{LineParts}
 use Rattle.table.proofs.Places.{place-asked}
 use Rattle.table.proofs.Reading.{served-room, own-place, children-place, siblings-place}
-use Rattle.table.proofs.OneLine.{part-long, filled-before, line-in, line-some, line-few, line-fits, parts, rest-few, line-stored, fronts-long, fronts-parts, fronts-line}
+use Rattle.table.proofs.OneLine.{filled-before, line-in, line-some, line-few, line-fits, parts, rest-few, line-stored, fronts-long, fronts-parts, fronts-line}
 use Rattle.table.proofs.fill_joined.Statement.{statement}
 use Rattle.table.proofs.fill_joined.Tie as tie
 
