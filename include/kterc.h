@@ -12,17 +12,19 @@
  *
  * Scratch. Words of 64 bits: 4 * n of them and, for each node v from 1 on, depth(v) * (min(k, r(v)) + 1), where depth(v) is the
  * number of links from v to the server, and r(v) the number of nodes, closed ones too, at or below v and at or below its later
- * siblings. kterc_scratch_words says how many these are for a file, and at most KTERC_SCRATCH_WORDS are asked. What they hold before a call does not matter. After an accepted call these
- * words may hold anything; the words beyond them stay.
+ * siblings. kterc_scratch_words says how many these are for a file, and at most KTERC_SCRATCH_WORDS are asked. Every call that
+ * takes scratch asks for as many (rule 13). What they hold before a call does not matter. After an accepted call these words may
+ * hold anything; the words beyond them stay.
  *
- * Answers. Node numbers are of 16 bits, totals and loads of 64 bits in thousandths. Arrays may be longer than asked: entries
- * beyond those written stay.
+ * Answers. Node numbers in arrays are of 16 bits, totals and loads of 64 bits in thousandths. Arrays may be longer than asked
+ * (rule 14): entries beyond those written stay.
  *
  * Stack. A call needs KTERC_.._STACK bytes of its thread's stack, whatever the file. They are measured, on x86-64 and with a
  * margin of a third or more, and not proved.
  *
  * Result. 0: accepted, the answers are written. Else the call is refused: KTERC_RULE gives the number of the first broken rule,
- * KTERC_RECORD the record it broke on (0 where no record is at fault), and nothing is changed, neither answers nor scratch.
+ * KTERC_RECORD the record it broke on (0 where no record is at fault), and nothing is changed, neither answers nor scratch. The
+ * rules about the file come first, then 12 about a set or 16 about a node and a budget, then 13, then 14.
  */
 #ifndef KTERC_H
 #define KTERC_H
@@ -34,7 +36,8 @@
 extern "C" {
 #endif
 
-/* The largest sizes that a tree file can have, its bytes among them, and words of scratch that are enough for every accepted file. */
+/* The largest sizes that a tree file can have, its bytes among them, and words of scratch that are enough for every accepted
+ * file. */
 #define KTERC_NODES 1024
 #define KTERC_BUDGET 32
 #define KTERC_DEPTH 32
@@ -48,6 +51,10 @@ extern "C" {
 #define KTERC_PLAN_STACK (40 * 1024)
 #define KTERC_GREEDY_STACK (28 * 1024)
 #define KTERC_REPORT_STACK (40 * 1024)
+#define KTERC_WITH_WITHOUT_STACK (40 * 1024)
+
+/* Stands in the place of a total where there is none. Every total is below 2^62. */
+#define KTERC_NO_TOTAL UINT64_MAX
 
 #define KTERC_RULE(answer) ((answer) % 256)
 #define KTERC_RECORD(answer) ((answer) / 256)
@@ -79,6 +86,14 @@ uint32_t kterc_greedy(const uint8_t *file, size_t file_length, uint64_t *scratch
 uint32_t kterc_report(const uint8_t *file, size_t file_length, uint64_t *scratch, size_t scratch_length, uint64_t *totals,
                       size_t totals_length, uint16_t *rows, size_t rows_length, uint64_t *greedy_totals,
                       size_t greedy_totals_length, uint16_t *greedy_nodes, size_t greedy_nodes_length);
+
+/* With a node or without it, the node from 1 to n - 1 and the budget from 0 to k (rule 16). Asked of the array: 2 entries of
+ * totals. The first is the least total of at most `budget` caches at open nodes, one of them at the node, or KTERC_NO_TOTAL where
+ * there is no such set: the budget is 0 or the node is closed. The second is the least total of at most `budget` caches at open
+ * nodes, none of them at the node. The smaller of the two is the plan's total at that budget. The plan has the node only if the
+ * first is no larger than the second, and has it if the first is smaller. */
+uint32_t kterc_with_without(const uint8_t *file, size_t file_length, size_t node, size_t budget, uint64_t *scratch,
+                            size_t scratch_length, uint64_t *totals, size_t totals_length);
 
 #ifdef __cplusplus
 }

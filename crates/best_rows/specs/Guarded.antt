@@ -1,8 +1,10 @@
--- Costs where not every choice is allowed at a node: a cache may be forbidden there, or required.
+-- Costs where not every choice is allowed at a node: a cache may be forbidden there, or required. What the nodes of a tree may be, and a wish
+-- for one node.
 use mathlib.Core.Path.{_≡_}
-use mathlib.Core.Bool.{Bool, true, cond, not, _||_}
+use mathlib.Core.Bool.{Bool, true, cond, not, Bool·beq, _&&_, _||_}
 use mathlib.Core.List.{List}
 use Prim.Native.Nat.{ℕ, _≤_}
+use lib.Dec.{eqb}
 use lib.ListN.{length}
 use Rattle.laws.specs.Lists.{has}
 use Rattle.model.specs.File.{Tree, Demand}
@@ -29,6 +31,20 @@ module _ (allows : ℕ → Bool → Bool) where
 -- may node v of the tree be a cache (u is true), or none (u is false)? None always, a cache where the node is open.
 unfoldable pub mayBe : Tree → ℕ → Bool → Bool
 mayBe t v u = not u || t .isOpen v
+
+-- a wish for one node: no wish, or that node x is a cache (m is true), or that it is not (m is false)
+pub data Wish : Type 0 where
+  noWish : Wish
+  wish : ℕ → Bool → Wish
+
+-- does it let node v be a cache (u is true), or not be one (u is false)?
+abbrev pub grants : Wish → ℕ → Bool → Bool
+grants noWish v u = true
+grants (wish x m) v u = not (eqb v x) || Bool·beq u m
+
+-- what a node of the tree may be under a wish
+abbrev pub mayBeUnder : Tree → Wish → ℕ → Bool → Bool
+mayBeUnder t w v u = grants w v u && mayBe t v u
 
 -- K is an ascending list of at most b nodes from 1 to n − 1 that keeps to what is allowed
 pub record AllowedSet (t : Tree) (allows : ℕ → Bool → Bool) (b : ℕ) (k : List ℕ) : Type 0 where

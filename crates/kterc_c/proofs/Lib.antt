@@ -1,2 +1,3 @@
 mod Bills
+mod Sites
 mod Named

@@ -5,7 +5,7 @@ use Prim.Native.Nat.{ℕ}
 use Rattle.model.specs.Rules.{Verdict}
 use Rattle.model.specs.Calls.{PlanMemory, planVerdict, PlanCall, GreedyMemory, greedyVerdict, GreedyCall}
 use Rattle.model.specs.Report.{ReportMemory, reportVerdict, ReportCall}
-use Rattle.model.specs.Hosts.{codeOf, HostBillMemory, hostBillVerdict, HostBillCall}
+use Rattle.model.specs.Hosts.{codeOf, HostBillMemory, hostBillVerdict, HostBillCall, HostWithOrWithoutMemory, hostWithOrWithoutVerdict, HostWithOrWithoutCall}
 
 -- the code is that of the verdict, and the call keeps its record with that verdict
 abbrev Told : (Verdict → Type 0) → ℕ → Verdict → Type 0
@@ -27,3 +27,7 @@ module _ {code : ℕ} {v : Verdict} (told : code ≡ codeOf v) {file : List ℕ}
   pub report-told : {memory memory′ : ReportMemory} → ReportCall file memory v memory′
       → Told (λ x. ReportCall file memory x memory′) code (reportVerdict file memory)
   report-told call = (told ∙ ap codeOf (call .verdict), rw (call .verdict) at call)
+
+  pub with-without-told : {node budget : ℕ} {memory memory′ : HostWithOrWithoutMemory} → HostWithOrWithoutCall file node budget memory v memory′
+      → Told (λ x. HostWithOrWithoutCall file node budget memory x memory′) code (hostWithOrWithoutVerdict file node budget memory)
+  with-without-told call = (told ∙ ap codeOf (call .verdict), rw (call .verdict) at call)

@@ -3,13 +3,19 @@ ghost use mathlib.Core.Path.{_≡_};
 ghost use Rattle.model.specs.Rules.{broken, _then_, fileVerdict, askSet};
 ghost use Rattle.model.specs.Calls.{checkNumber, PlanMemory, planVerdict, PlanCall, GreedyMemory, greedyVerdict, GreedyCall};
 ghost use Rattle.model.specs.Report.{ReportMemory, reportVerdict, ReportCall};
-ghost use Rattle.model.specs.Hosts.{codeOf, wordsAsked, HostBillMemory, hostBillVerdict, HostBillCall};
+ghost use Rattle.model.specs.Hosts.{codeOf, wordsAsked, HostBillMemory, hostBillVerdict, HostBillCall, HostWithOrWithoutMemory, hostWithOrWithoutVerdict, HostWithOrWithoutCall};
 ghost use Rattle.tree_file.specs.Checks.{verdictOf};
+ghost use Rattle.one_site.specs.Site.{siteVerdict};
+use one_site::WithOrWithout;
 use placement::Billed;
+use tree_file::Checked;
 use tree_file::Ruling;
 
 // The rule's number is one byte of an answer, and the record stands above it.
 const CODE_UNIT: u32 = 256;
+
+// Stands for "none" among totals: the largest number of 64 bits, which no total reaches.
+const NO_TOTAL: u64 = 18_446_744_073_709_551_615;
 
 // A ruling as one number: record × 256 + number, 0 where no rule is broken.
 fn code_of(ruling: Ruling) -> u32
@@ -133,4 +139,60 @@ pub extern "C" fn kterc_report(
     ensures { λ _. ⌜ (let lent : ReportMemory = record { scratch = now (scratch .entry); planTotals = now (totals .entry); planRows = now (rows .entry); greedyTotals = now («greedy_totals» .entry); greedyNodes = now («greedy_nodes» .entry) } in ReportCall (now (file .entry)) lent (reportVerdict (now (file .entry)) lent) record { scratch = now (scratch .exit); planTotals = now (totals .exit); planRows = now (rows .exit); greedyTotals = now («greedy_totals» .exit); greedyNodes = now («greedy_nodes» .exit) }) ⌝ }
 {
     code_of(report::report(file, scratch, totals, rows, greedy_totals, greedy_nodes))
+}
+
+// The answer with no room for both totals: the rules about the file, 16 and 13, then rule 14, which is broken.
+fn no_room_for_both(file: &[u8], node: usize, budget: usize, words: usize) -> Ruling
+    ensures { λ r. ⌜ verdictOf r ≡ (siteVerdict (now (file .entry)) node budget words then broken 14 0) ⌝ }
+{
+    let checked = one_site::check(file, node, budget, words);
+    match checked {
+        Checked::Accepted(_) => Ruling::Broken(14, 0),
+        Checked::Refused(q, record) => Ruling::Broken(q, record),
+    }
+}
+
+// The least totals with a node and without it, as a buffer.
+fn with_without(
+    file: &[u8],
+    node: usize,
+    budget: usize,
+    scratch: &mut [u64],
+    totals: &mut [u64],
+) -> Ruling
+    ensures { λ r. ⌜ HostWithOrWithoutCall (now (file .entry)) node budget record { scratch = now (scratch .entry); totals = now (totals .entry) } (verdictOf r) record { scratch = now (scratch .exit); totals = now (totals .exit) } ⌝ }
+{
+    if totals.len() < 2 {
+        return no_room_for_both(file, node, budget, scratch.len());
+    }
+    let found = one_site::with_or_without(file, node, budget, scratch);
+    match found {
+        WithOrWithout::Both(with, without) => {
+            totals[0] = with.0;
+            totals[1] = without.0;
+            Ruling::Passed
+        }
+        WithOrWithout::Without(without) => {
+            totals[0] = NO_TOTAL;
+            totals[1] = without.0;
+            Ruling::Passed
+        }
+        WithOrWithout::Refused(q, record) => Ruling::Broken(q, record),
+    }
+}
+
+// The least total of all sets of at most `budget` nodes that contain the node, or NO_TOTAL, and the least of those that don't, in
+// the first two entries of `totals`.
+#[no_mangle]
+pub extern "C" fn kterc_with_without(
+    file: &[u8],
+    node: usize,
+    budget: usize,
+    scratch: &mut [u64],
+    totals: &mut [u64],
+) -> u32
+    ensures { λ r. ⌜ r ≡ codeOf (hostWithOrWithoutVerdict (now (file .entry)) node budget record { scratch = now (scratch .entry); totals = now (totals .entry) }) ⌝ }
+    ensures { λ _. ⌜ (let lent : HostWithOrWithoutMemory = record { scratch = now (scratch .entry); totals = now (totals .entry) } in HostWithOrWithoutCall (now (file .entry)) node budget lent (hostWithOrWithoutVerdict (now (file .entry)) node budget lent) record { scratch = now (scratch .exit); totals = now (totals .exit) }) ⌝ }
+{
+    code_of(with_without(file, node, budget, scratch, totals))
 }

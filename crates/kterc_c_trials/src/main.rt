@@ -3,7 +3,8 @@
 //
 // A case is `NAME CALL FILE`, and then the arrays that are lent, each by how many entries it has, a set by its members:
 // `check` and `words` take none, `bill` takes SET TOTAL SERVING LOADS, `plan` SCRATCH BEYOND TOTALS ROWS, `greedy` SCRATCH
-// BEYOND TOTALS GREEDY_NODES, and `report` SCRATCH BEYOND TOTALS ROWS GREEDY_TOTALS GREEDY_NODES.
+// BEYOND TOTALS GREEDY_NODES, `report` SCRATCH BEYOND TOTALS ROWS GREEDY_TOTALS GREEDY_NODES, and `with_without`, after the numbers
+// NODE BUDGET, SCRATCH BEYOND TOTALS.
 // Its answer is `NAME NUMBER`, the number that the call answers, then each array by its name, whole, and `kept` if the words of
 // the scratch from BEYOND on are as they were. Before the call each word of the scratch is 5432123, each entry of TOTAL and
 // TOTALS 987654321, of SERVING and ROWS 4321, of LOADS and GREEDY_TOTALS 123456789, and of GREEDY_NODES 1234.
@@ -79,6 +80,19 @@ fn answer_report(
     show_nodes(b" rows", rows);
     show_totals(b" greedy_totals", greedy_totals);
     show_nodes(b" greedy_nodes", greedy_nodes);
+    trial_text::print_kept(scratch, beyond, 5432123);
+}
+
+fn answer_with_without(
+    file: &[u8],
+    node: usize,
+    budget: usize,
+    beyond: usize,
+    scratch: &mut [u64],
+    totals: &mut [u64],
+) {
+    print_code(kterc_c::kterc_with_without(file, node, budget, scratch, totals));
+    show_totals(b" totals", totals);
     trial_text::print_kept(scratch, beyond, 5432123);
 }
 
@@ -159,6 +173,22 @@ fn report_case(file: &[u8], line: &[u8]) {
     );
 }
 
+fn with_without_case(file: &[u8], line: &[u8]) {
+    let mut scratch = [5432123u64; 9000];
+    let mut totals = [987654321u64; 40];
+    let a = trial_text::entries(line, 5, 9000);
+    let beyond = trial_text::entries(line, 6, 9000);
+    let b = trial_text::entries(line, 7, 40);
+    answer_with_without(
+        file,
+        trial_text::number_of(line, 3),
+        trial_text::number_of(line, 4),
+        beyond,
+        &mut scratch[0..a],
+        &mut totals[0..b],
+    );
+}
+
 fn answer_case(file: &[u8], line: &[u8]) {
     let call = trial_text::word(line, 1);
     if check::same(call, b"check") {
@@ -178,6 +208,9 @@ fn answer_case(file: &[u8], line: &[u8]) {
     }
     if check::same(call, b"report") {
         report_case(file, line);
+    }
+    if check::same(call, b"with_without") {
+        with_without_case(file, line);
     }
 }
 

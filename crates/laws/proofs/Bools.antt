@@ -72,6 +72,10 @@ pub cond-same : {A : Type 0} (b : Bool) (x : A) → cond b x x ≡ x
 cond-same true x = refl
 cond-same false x = refl
 
+pub cond-both : {A : Type 0} (a b : Bool) (x y : A) → cond (a && b) x y ≡ cond a (cond b x y) y
+cond-both true b x y = refl
+cond-both false b x y = refl
+
 pub bit-same : (a b : Bool) → bit a ≡ bit b → a ≡ b
 bit-same true true e = refl
 bit-same true false e = absurd (omega arith)

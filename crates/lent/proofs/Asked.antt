@@ -1,5 +1,5 @@
 -- Rules 13 and 14 after the rules about the file.
-use mathlib.Core.Path.{_≡_, refl, sym, ap, ap₂, _∙_}
+use mathlib.Core.Path.{_≡_, sym, ap, ap₂, _∙_}
 use mathlib.Core.Bool.{Bool, true, false, _&&_}
 use mathlib.Core.List.{List}
 use Prim.Native.Nat.{ℕ, suc, _+_, _≤_, _<_}
@@ -7,10 +7,10 @@ use native.Mathlib.Omega.{arith}
 use lib.Dec.{leb}
 use lib.ListN.{length}
 use borrow.Author.Tests.{leb-true, le-leb, lt-leb}
-use Rattle.model.specs.Rules.{Verdict, passed, broken, ask, _then_, fileVerdict, accepted, scratchWords, askScratch, askBuffers}
+use Rattle.model.specs.Rules.{passed, broken, ask, _then_, fileVerdict, accepted, scratchWords, askScratch, askBuffers}
 use Rattle.model.specs.Calls.{answered, refused, answer}
 use Rattle.model.specs.Hosts.{wordsAsked}
-use Rattle.model.proofs.Verdicts.{ask-passed, then-passed, answered-passed, refused-broken}
+use Rattle.model.proofs.Verdicts.{ask-passed, then-passed, then-grouped, answered-passed, refused-broken}
 use Rattle.fields.specs.declared.Tree as code
 use Rattle.tree_file.specs.Checks.{sizesOf, AcceptedSizes, SizesHold}
 use Rattle.tree_file.proofs.Accepted.{sizes-hold}
@@ -63,15 +63,11 @@ module _ (file : List ℕ) where
 
 -- ---- rule 14
 
-then-grouped : (a b c : Verdict) → (a then b then c) ≡ ((a then b) then c)
-then-grouped passed b c = refl
-then-grouped (broken q i) b c = refl
-
 -- the verdict of a call with lent scratch and buffers: a refusal before rule 14 stands, and else rule 14 decides
 module _ (file scratch : List ℕ) (long : Bool) where
   grouped : (fileVerdict file then askScratch file scratch then askBuffers long) ≡ (lentVerdict file (length scratch) then askBuffers long)
   unfolding lentVerdict
-  grouped = then-grouped (fileVerdict file) (askScratch file scratch) (askBuffers long)
+  grouped = sym (then-grouped (fileVerdict file) (askScratch file scratch) (askBuffers long))
 
   pub refused-before-buffers : {q i : ℕ} → refused q i ≡ answer (lentVerdict file (length scratch)) (sizesOf file)
       → broken q i ≡ (fileVerdict file then askScratch file scratch then askBuffers long)

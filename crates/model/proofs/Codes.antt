@@ -10,8 +10,9 @@ use Rattle.laws.proofs.Bools.{by-test, both}
 use Rattle.model.specs.File.{Share, ratio, bytes, mostHit, hasOpenBytes, openField, fieldOf}
 use Rattle.model.specs.Rules.{Verdict, passed, broken, ask, _then_, askShare, askOpen, recordVerdict, recordsVerdict, fileVerdict}
 use Rattle.model.specs.Calls.{PlanMemory, planVerdict, GreedyMemory, greedyVerdict}
+use Rattle.model.specs.WithOrWithout.{withOrWithoutVerdict}
 use Rattle.model.specs.Report.{ReportMemory, reportVerdict}
-use Rattle.model.specs.Hosts.{codeUnit, codeOf, HostBillMemory, hostBillVerdict}
+use Rattle.model.specs.Hosts.{codeUnit, codeOf, HostBillMemory, hostBillVerdict, HostWithOrWithoutMemory, hostWithOrWithoutVerdict}
 use Rattle.model.proofs.Verdicts.{broken≢passed}
 
 pub code-reads : (q i : ℕ) → q < codeUnit → (codeOf (broken q i) % codeUnit ≡ q) × (codeOf (broken q i) / codeUnit ≡ i)
@@ -80,3 +81,7 @@ module _ (file : List ℕ) where
   pub report-numbered : (memory : ReportMemory) → Numbered (reportVerdict file memory)
   unfolding reportVerdict
   report-numbered memory = search (both-numbered, ask-numbered, file-numbered)
+
+  pub with-or-without-numbered : (v b : ℕ) (memory : HostWithOrWithoutMemory) → Numbered (hostWithOrWithoutVerdict file v b memory)
+  unfolding hostWithOrWithoutVerdict withOrWithoutVerdict
+  with-or-without-numbered v b memory = search (both-numbered, ask-numbered, file-numbered)

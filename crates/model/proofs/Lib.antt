@@ -16,6 +16,7 @@ pub mod Ascending
 pub mod Sets
 pub mod Order
 pub mod Plans
+pub mod WithOrWithout
 pub mod WithNode
 pub mod GreedySteps
 pub mod GreedyRuns
@@ -30,3 +31,4 @@ pub mod Versions
 pub mod Situations
 pub mod Adds
 pub mod AddsCases
+pub mod WithOrWithoutCases

@@ -17,6 +17,10 @@ pub then-passed : (a b : Verdict) → (a then b) ≡ passed → (a ≡ passed) �
 then-passed passed b e = (refl, e)
 then-passed (broken q i) b e = absurd (broken≢passed e)
 
+pub then-grouped : (a b c : Verdict) → ((a then b) then c) ≡ (a then b then c)
+then-grouped passed b c = refl
+then-grouped (broken q i) b c = refl
+
 pub then-none : (a : Verdict) → (a then passed) ≡ a
 then-none passed = refl
 then-none (broken q i) = refl

@@ -1,22 +1,24 @@
--- Laws of the calls, proved for every file (`calls-lawful` in proofs/CallLaws): the ranking and its winner, a host's codes, the
--- buffers that question 14 asks for, the scratch after a call, that demand 3 is met and leaves no choice, and printed numbers.
+-- Laws of the calls, proved for every file (`calls-lawful` in proofs/CallLaws): the ranking and its winner, questions 12 and 16, a host's
+-- codes and how it is told none, the buffers that question 14 asks for, the scratch after a call, that demand 3 is met and leaves no
+-- choice, and printed numbers.
 -- Numbers are written out here, so that a wrong constant breaks a law.
 use mathlib.Core.Path.{_≡_}
 use mathlib.Core.Bool.{true, false}
 use mathlib.Core.List.{List, [], _∷_}
-use mathlib.Core.Logic.{_↔_}
-use Prim.Native.Nat.{ℕ, _+_, _*_, _-_, _/_, _%_, _≤_}
+use mathlib.Core.Logic.{_↔_, _⊎_}
+use Prim.Native.Nat.{ℕ, _+_, _*_, _-_, _/_, _%_, _≤_, _<_}
 use lib.ListN.{length, getD}
 use Rattle.model.specs.File.{treeOf, demandOf, countOf, budgetOf}
 use Rattle.model.specs.Tree.{height}
-use Rattle.model.specs.Rules.{Verdict, passed, broken, fileVerdict, isSet, scratchWords}
+use Rattle.model.specs.Rules.{Verdict, passed, broken, fileVerdict, isSet, askNode, scratchWords, longEnough}
 use Rattle.model.specs.Bill.{linkTotal}
 use Rattle.model.specs.Ties.{ranksBefore}
 use Rattle.model.specs.Plan.{plan, planTotal}
 use Rattle.model.specs.Greedy.{greedyTotal}
 use Rattle.model.specs.Calls.{answered, refused, first, second, ScratchAfter, BillMemory, billVerdict, billBuffersLong, servingNodes, linkLoads, rankVerdict, ranking, winner, planTotals, planRows, planBuffersLong, PlanMemory, planVerdict, PlanCall, greedyTotals, greedyRow, greedyBuffersLong, GreedyMemory, greedyVerdict, GreedyCall}
+use Rattle.model.specs.WithOrWithout.{Least, none, leastIs, withIt, withOrWithoutVerdict, WithOrWithoutCall, LeastWhere}
 use Rattle.model.specs.Report.{setOfRow, ReportMemory, DemandThree, reportBuffersLong, reportVerdict, ReportCall, digit, decimal}
-use Rattle.model.specs.Hosts.{codeOf, HostBillMemory, hostBillVerdict}
+use Rattle.model.specs.Hosts.{codeOf, HostBillMemory, hostBillVerdict, totalOrNone, HostWithOrWithoutMemory, hostWithOrWithoutVerdict, bothTotals, HostWithOrWithoutCall}
 
 -- the ranking of K and L in a file, and its winner
 pub record RankingSaid (file k l : List ℕ) : Type 0 where
@@ -35,8 +37,8 @@ pub record RankingSaid (file k l : List ℕ) : Type 0 where
 
 -- what a host reads from the code of a verdict: 0 just where no rule is broken, else record × 256 + number
 pub record CodeSaid (v : Verdict) : Type 0 where
-  pub none : codeOf v ≡ 0 ↔ v ≡ passed
-  pub some : (q i : ℕ) → v ≡ broken q i → (codeOf v % 256 ≡ q) × (codeOf v / 256 ≡ i)
+  pub passes : codeOf v ≡ 0 ↔ v ≡ passed
+  pub refuses : (q i : ℕ) → v ≡ broken q i → (codeOf v % 256 ≡ q) × (codeOf v / 256 ≡ i)
 
 -- the entries from index `words` on and the length stay
 abbrev pub StaysFrom : ℕ → List ℕ → List ℕ → Type 0
@@ -54,11 +56,14 @@ pub record CallsLawful (file : List ℕ) : Type 0 where
   pub billedIsSet : (set : List ℕ) (memory : BillMemory) → billVerdict file set memory ≡ passed → isSet (treeOf file) set ≡ true
   pub hostBilledIsSet : (set : List ℕ) (memory : HostBillMemory) → hostBillVerdict file set memory ≡ passed → isSet (treeOf file) set ≡ true
   pub rankedAreSets : (k l : List ℕ) → rankVerdict file k l ≡ passed → (isSet (treeOf file) k ≡ true) × (isSet (treeOf file) l ≡ true)
-  -- a host's code of the bill, the plan, the greedy rule and the report
+  -- 16: "the node is not from 1 to n − 1, or b is above k"
+  pub nodeAsked : (v b : ℕ) → askNode file v b ≡ passed ↔ ((1 ≤ v) × (v < countOf file) × (b ≤ budgetOf file))
+  -- a host's code of the bill, the plan, the greedy rule, the report, and the totals with a node and without it
   pub billCode : (set : List ℕ) (memory : HostBillMemory) → CodeSaid (hostBillVerdict file set memory)
   pub planCode : (memory : PlanMemory) → CodeSaid (planVerdict file memory)
   pub greedyCode : (memory : GreedyMemory) → CodeSaid (greedyVerdict file memory)
   pub reportCode : (memory : ReportMemory) → CodeSaid (reportVerdict file memory)
+  pub withOrWithoutCode : (v b : ℕ) (memory : HostWithOrWithoutMemory) → CodeSaid (hostWithOrWithoutVerdict file v b memory)
   -- "Is every answer buffer long enough?": for what the call writes
   pub billFits : (set servings loads : List ℕ) → billBuffersLong file servings loads ≡ true
       ↔ ((length (servingNodes file set) ≤ length servings) × (length (linkLoads file set) ≤ length loads))
@@ -69,6 +74,22 @@ pub record CallsLawful (file : List ℕ) : Type 0 where
   pub reportFits : (memory : ReportMemory) → reportBuffersLong file memory ≡ true
       ↔ ((planBuffersLong file (memory .planTotals) (memory .planRows) ≡ true)
       × (greedyBuffersLong file (memory .greedyTotals) (memory .greedyNodes) ≡ true))
+  pub withOrWithoutFits : (v b : ℕ) (totals : List ℕ) → longEnough 2 totals ≡ true ↔ length (bothTotals file v b) ≤ length totals
+  -- no total is the number that tells a host "none", the largest of 64 bits
+  pub noneTold : fileVerdict file ≡ passed → (v b : ℕ)
+      → totalOrNone (withIt (treeOf file) (demandOf file) b v) ≡ 18_446_744_073_709_551_615 ↔ withIt (treeOf file) (demandOf file) b v ≡ none
+  -- the call answers just where no question gets a "no"
+  pub withOrWithoutPasses : (v b : ℕ) (scratch : List ℕ) → withOrWithoutVerdict file v b scratch ≡ passed
+      ↔ ((fileVerdict file ≡ passed) × (1 ≤ v) × (v < countOf file) × (b ≤ budgetOf file) × (scratchWords file ≤ length scratch))
+  -- "the tool's two totals are shown to be those minima": whatever the call answers
+  pub bothMinima : (v b : ℕ) (x y : Least) (scratch scratch′ : List ℕ) → WithOrWithoutCall file v b scratch (answered (x, y)) scratch′
+      → LeastWhere (treeOf file) (demandOf file) b v true x × LeastWhere (treeOf file) (demandOf file) b v false y
+  -- and what a host finds in its first two entries: the first is the largest number of 64 bits where no set contains the node
+  pub hostMinima : (v b : ℕ) (memory memory′ : HostWithOrWithoutMemory) → HostWithOrWithoutCall file v b memory passed memory′
+      → let t = treeOf file in let d = demandOf file in
+      let first = getD (memory′ .totals) 0 0 in
+      (LeastWhere t d b v true (leastIs first) ⊎ (LeastWhere t d b v true none × (first ≡ 18_446_744_073_709_551_615)))
+      × LeastWhere t d b v false (leastIs (getD (memory′ .totals) 1 0))
   -- 13: never more words than 01 asked for, n × (h + 1) × (k + 1) + 4 × n; and at most 1,023 × 32 × 33 + 4 × 1,024
   pub wordsFewer : scratchWords file ≤ countOf file * (height (treeOf file) + 1) * (budgetOf file + 1) + 4 * countOf file
   pub wordsMost : fileVerdict file ≡ passed → scratchWords file ≤ 1_084_384
@@ -79,6 +100,11 @@ pub record CallsLawful (file : List ℕ) : Type 0 where
       → StaysFrom (scratchWords file) (memory .scratch) (memory′ .scratch)
   pub reportFrees : (memory memory′ : ReportMemory) → ReportCall file memory passed memory′
       → StaysFrom (scratchWords file) (memory .scratch) (memory′ .scratch)
+  pub withOrWithoutFrees : (v b : ℕ) (both : Least × Least) (scratch scratch′ : List ℕ)
+      → WithOrWithoutCall file v b scratch (answered both) scratch′ → StaysFrom (scratchWords file) scratch scratch′
+  pub hostWithOrWithoutFrees : (v b : ℕ) (memory memory′ : HostWithOrWithoutMemory) → HostWithOrWithoutCall file v b memory passed memory′
+      → StaysFrom (scratchWords file) (memory .scratch) (memory′ .scratch)
+  pub withOrWithoutKeeps : (v b q i : ℕ) (scratch scratch′ : List ℕ) → WithOrWithoutCall file v b scratch (refused q i) scratch′ → scratch′ ≡ scratch
   pub scratchKept : (words q i : ℕ) (old new : List ℕ) → ScratchAfter (broken q i) words old new → new ≡ old
   -- the report call meets demand 3
   pub demandMet : (memory memory′ : ReportMemory) → ReportCall file memory passed memory′ → DemandThree file memory′

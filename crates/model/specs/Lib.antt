@@ -7,6 +7,7 @@ pub mod Ties
 pub mod Plan
 pub mod Greedy
 pub mod Calls
+pub mod WithOrWithout
 pub mod Report
 pub mod Hosts
 pub mod CallLaws
@@ -20,5 +21,6 @@ pub mod Situations
 pub mod Adds
 pub mod Samples
 pub mod AddsCases
+pub mod WithOrWithoutCases
 pub mod VersionCases
 pub mod Worked

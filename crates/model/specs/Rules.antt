@@ -1,6 +1,6 @@
--- Document 01, "The questions, in this order", with 02, items 2, 3 and 9: each rule, and what a file, a set, a scratch and a buffer
+-- Document 01, "The questions, in this order", with 02, items 1, 2, 3 and 9: each rule, and what a file, a set, a scratch and a buffer
 -- must fulfil.
--- "Rule N" is question N. The order in which a call asks them is in Calls.
+-- "Rule N" is question N. The order in which a call asks them is in Calls, WithOrWithout, Report and Hosts.
 use mathlib.Core.Bool.{Bool, true, false, cond, _&&_}
 use mathlib.Core.List.{List, [], _∷_}
 use Prim.Native.Nat.{ℕ, zero, suc, _+_, _*_, min}
@@ -91,7 +91,7 @@ fileVerdict s =
 unfoldable pub accepted : List ℕ → Bool
 accepted s = isPassed (fileVerdict s)
 
--- ---- rules 12 to 15, where a call takes them; each names record 0
+-- ---- rules 12 to 16, where a call takes them; each names record 0
 
 -- strictly ascending from above a on, each below n
 unfoldable pub ascends : ℕ → ℕ → List ℕ → Bool
@@ -105,6 +105,10 @@ isSet t k = ascends 0 (t .count) k && allOf (t .isOpen) k
 -- 12: "Is the set strictly ascending, each from 1 to n − 1?"; "also refuses a set with a closed node"
 abbrev pub askSet : List ℕ → List ℕ → Verdict
 askSet s k = ask 12 0 (isSet (treeOf s) k)
+
+-- 16: "the node is not from 1 to n − 1, or b is above k"
+abbrev pub askNode : List ℕ → ℕ → ℕ → Verdict
+askNode s v b = ask 16 0 (leb 1 v && ltb v (countOf s) && leb b (budgetOf s))
 
 -- "the sum over nodes v from 1 on of depth(v) × (min(k, r(v)) + 1), plus 4 × n words"
 unfoldable pub scratchWords : List ℕ → ℕ

@@ -5,7 +5,7 @@ use lib.ListN.{take, replicate}
 use Rattle.laws.specs.Lists.{range}
 use Rattle.model.specs.Calls.{BillMemory, PlanMemory, GreedyMemory}
 use Rattle.model.specs.Report.{ReportMemory}
-use Rattle.model.specs.Hosts.{HostBillMemory}
+use Rattle.model.specs.Hosts.{HostBillMemory, HostWithOrWithoutMemory}
 
 -- ---- version 1
 
@@ -252,6 +252,9 @@ billMemory servings loads = record { servings = replicate servings 7; loads = re
 abbrev pub hostBillMemory : ℕ → ℕ → ℕ → HostBillMemory
 hostBillMemory totals servings loads =
     record { totals = replicate totals 7; servings = replicate servings 7; loads = replicate loads 7 }
+
+abbrev pub hostWithOrWithoutMemory : ℕ → ℕ → HostWithOrWithoutMemory
+hostWithOrWithoutMemory scratch totals = record { scratch = replicate scratch 7; totals = replicate totals 7 }
 
 abbrev pub planMemory : ℕ → ℕ → ℕ → PlanMemory
 planMemory scratch totals rows = record { scratch = replicate scratch 7; totals = replicate totals 7; rows = replicate rows 7 }

@@ -1,5 +1,5 @@
 -- The plan call, answer by answer: a refusal writes nothing, and what is written is the plan.
-use mathlib.Core.Path.{_≡_, refl, ap, _∙_}
+use mathlib.Core.Path.{_≡_, refl, _∙_}
 use mathlib.Core.Bool.{Bool, true, false, _&&_}
 use mathlib.Core.List.{List}
 use Prim.Native.Nat.{ℕ, suc, _+_, _*_, _≤_}
@@ -13,7 +13,7 @@ use borrow.Author.Tests.{leb-true}
 use Rattle.laws.specs.Fronts.{FrontOnly}
 use Rattle.laws.proofs.Bools.{both}
 use Rattle.laws.proofs.Stores.{sets-front}
-use Rattle.model.specs.File.{treeOf, countOf, budgetOf, mostBudget}
+use Rattle.model.specs.File.{budgetOf, mostBudget}
 use Rattle.model.specs.Rules.{passed, broken, scratchWords}
 use Rattle.model.specs.Calls.{answered, refused, answer, after, planTotals, planRows, PlanMemory, planBuffersLong, planVerdict, PlanCall}
 use Rattle.model.proofs.Written.{length-plan-totals, length-plan-rows}
@@ -21,8 +21,6 @@ use Rattle.fields.specs.declared.Tree as code
 use Rattle.tree_file.specs.Checks.{sizesOf}
 use Rattle.lent.specs.Lent.{lentVerdict, LentRoom}
 use Rattle.lent.proofs.Asked.{lent-told, refused-before-buffers, buffers-decide, totals-long}
-use Rattle.places.specs.Places.{Places}
-use Rattle.table.specs.Table.{TableRoom}
 use Rattle.optimum.specs.Budgets.{Buffers}
 
 -- ---- what the rules before rule 14 say, where they hold
@@ -30,17 +28,6 @@ use Rattle.optimum.specs.Budgets.{Buffers}
 module _ (file scratch : List ℕ) {sizes : code.Tree} (e : answered sizes ≡ answer (lentVerdict file (length scratch)) (sizesOf file)) where
   pub plan-room : LentRoom file sizes scratch
   plan-room = let told = lent-told file e in record { of-file = record { accepted = told .0; of-file = told .2 }; room = told .1 }
-
--- n and k are the file's, and with the places noted there is room for the table
-module _ {file scratch : List ℕ} {sizes : code.Tree} (r : LentRoom file sizes scratch) where
-  pub plan-count : sizes .nodes ≡ countOf file
-  plan-count = ap (λ z. z .nodes) (r .of-file .of-file)
-
-  pub plan-budget-is : sizes .budget ≡ budgetOf file
-  plan-budget-is = ap (λ z. z .budget) (r .of-file .of-file)
-
-  pub plan-places : {starts widths : List ℕ} → Places (treeOf file) (sizes .budget) starts widths → TableRoom file starts widths scratch
-  plan-places p = record { accepted = r .of-file .accepted; places = rw plan-budget-is at p; room = r .room }
 
 -- ---- what is written stands in front of the entries beyond it
 

@@ -2,7 +2,6 @@
 use mathlib.Core.Path.{_≡_, refl, sym, ap, _∙_}
 use mathlib.Core.Bool.{Bool, true, false}
 use mathlib.Core.List.{List}
-use mathlib.Core.Logic.{⊎-elim}
 use Prim.Native.Nat.{ℕ, zero, suc, _+_, _*_, _-_, _≤_, _<_}
 use native.Mathlib.Omega.{arith}
 use lib.Dec.{ltb}
@@ -26,16 +25,12 @@ use Rattle.best_rows.proofs.Least.{better-cases, first-least-within}
 use Rattle.best_rows.proofs.Optimum.{optimum-found}
 use Rattle.best_rows.proofs.Table.{length-best-nodes}
 use Rattle.node_words.specs.Words.{wordOf, childWord}
-use Rattle.best_rows.proofs.TreeRows.{first-child-stands}
-use Rattle.node_words.proofs.Ancestors.{child-depth, ancestor-server}
 use Rattle.lines.specs.Line.{entryOf, HoldsBest}
-use Rattle.table.specs.Table.{InTable, lineIn, Table}
-use Rattle.table.proofs.Room.{room-place}
-use Rattle.table.proofs.Reading.{row-line}
+use Rattle.table.specs.Table.{lineIn, Table}
+use Rattle.table.proofs.Server.{table-sound, table-child, server-line}
 use Rattle.optimum.specs.Walk.{RowServed, RowToWalk}
 use Rattle.optimum.specs.Budgets.{planRow, Budget, Buffers, Planned}
 use Rattle.optimum.proofs.Served.{children-served}
-use Rattle.optimum.proofs.Walk.{table-sound, table-child}
 
 -- ---- how many caches a budget has
 
@@ -83,25 +78,12 @@ module _ {file : List ℕ} {k : ℕ} {starts widths s : List ℕ} {b last : ℕ}
   served : RowServed (treeOf file) (firstChild (treeOf file) 0) 0
   served = children-served (treeOf file) (ok .preorder) 0 (ok .some)
 
-  -- it is there, and where the server has children they are one link below it
-  pub line-place : {child : ℕ} → child ≡ wordOf s 0 childWord → InTable starts widths s child 0
-  line-place e =
-      let t = treeOf file in
-      rw (table-child (r .table) (ok .some) e)
-      (room-place (r .table .stored .room) (firstChild t 0) 0 (served .node) (λ some. ⊎-elim (λ z. absurd (omega arith)) (λ w. omega (arith, w .0)) (served .way)))
-
   abbrev serverBest : ℕ → ℕ
   serverBest = bestAt (treeOf file) (demandOf file) (mayBe (treeOf file)) (firstChild (treeOf file) 0) 0
 
-  module _ {child : ℕ} {l : List ℕ} (e : child ≡ wordOf s 0 childWord) (f : l ≡ lineIn starts widths s child 0) where
-    -- holds the least of that row for each count
-    server-line : HoldsBest (budgetOf file + 1) serverBest l
-    server-line =
-        let t = treeOf file in
-        let first = firstChild t 0 in
-        rw (rw (table-child (r .table) (ok .some) e) at f)
-        (row-line (r .table) 0 0 first 0 0 (omega arith) (first-child-stands t 0)
-        (λ some p. (omega (arith, child-depth t (ok .preorder) first 0 some p), ancestor-server t (ok .preorder) first)))
+  module _ {l : List ℕ} (f : l ≡ lineIn starts widths s (wordOf s 0 childWord) 0) where
+    line-holds : HoldsBest (budgetOf file + 1) serverBest l
+    line-holds = server-line (r .table) f
 
     wide : b < budgetOf file + 1
     wide = omega (arith, r .within)
@@ -114,7 +96,7 @@ module _ {file : List ℕ} {k : ℕ} {starts widths s : List ℕ} {b last : ℕ}
       pub count-found : count ≡ leastCount (treeOf file) (demandOf file) (mayBe (treeOf file)) b
       count-found =
           c
-          ∙ better-by-line serverBest (budgetOf file + 1) last b server-line (omega (arith, wide, last-within)) wide
+          ∙ better-by-line serverBest (budgetOf file + 1) last b line-holds (omega (arith, wide, last-within)) wide
           ∙ rw (r .counted) (least-count-next (treeOf file) (demandOf file) (mayBe (treeOf file)) b)
 
       count-within : count ≤ b
@@ -122,7 +104,7 @@ module _ {file : List ℕ} {k : ℕ} {starts widths s : List ℕ} {b last : ℕ}
 
       -- and its entry there the plan's total
       pub total-found : entryOf l count ≡ planTotal (treeOf file) (demandOf file) b
-      total-found = server-line .is count (omega (arith, count-within, wide)) ∙ ap serverBest count-found ∙ found .1
+      total-found = line-holds .is count (omega (arith, count-within, wide)) ∙ ap serverBest count-found ∙ found .1
 
       -- ---- its row
 

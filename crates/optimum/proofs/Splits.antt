@@ -17,7 +17,7 @@ use Rattle.table.proofs.Reading.{own-row}
 use Rattle.optimum.specs.Walk.{RowToSplit}
 use Rattle.optimum.proofs.Served.{served-from-above}
 use Rattle.optimum.proofs.Nodes.{later-within, row-attained}
-use Rattle.optimum.proofs.Walk.{table-sound}
+use Rattle.table.proofs.Server.{table-sound}
 
 none-taken : (x : ℕ) (u : Bool) → one x u ≤ 0 → false ≡ u
 none-taken x true h = absurd (omega arith)

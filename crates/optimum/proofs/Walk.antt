@@ -8,32 +8,17 @@ use native.Mathlib.Numerals.{add-one}
 use native.Mathlib.Omega.{arith}
 use lib.ListN.{length, set, length-set}
 use lib.Seq.{sets}
-use Rattle.model.specs.File.{treeOf, demandOf, countOf, mostNodes}
-use Rattle.model.specs.Accepted.{Sound}
+use Rattle.model.specs.File.{treeOf, demandOf, mostNodes}
 use Rattle.best_rows.specs.Rows.{rowSize}
 use Rattle.best_rows.specs.Best.{cap}
 use Rattle.best_rows.specs.TreeRows.{firstChild, nextSibling, rowAt}
 use Rattle.best_rows.specs.BestAt.{one, bestAt, bestNodes, nodeBestAt, takesNode, laterAt}
 use Rattle.best_rows.proofs.Table.{row-size-node}
 use Rattle.node_words.specs.Words.{wordOf, childWord, siblingWord, HasNode}
-use Rattle.table.specs.Table.{Table}
-use Rattle.table.proofs.Room.{room-sound, stored-node}
+use Rattle.table.proofs.Server.{table-sound, table-has-node, table-child}
 use Rattle.optimum.specs.Walk.{nodesFrom, RowHas, RowToSplit, RowToWalk, NodeToWalk, Walked}
 use Rattle.optimum.proofs.Served.{children-served, children-served-above, siblings-served}
 use Rattle.optimum.proofs.Nodes.{row-has-node, row-without, node-without, children-attained, later-within, row-attained, row-stores}
-
--- ---- what a table says
-
-module _ {file : List ℕ} {allows : ℕ → Bool → Bool} {starts widths s : List ℕ} (r : Table file allows starts widths s) where
-  pub table-sound : Sound (treeOf file) (demandOf file)
-  table-sound = room-sound (r .stored .room)
-
-  pub table-has-node : {v : ℕ} → v < countOf file → HasNode s v
-  table-has-node h = stored-node (r .stored) h
-
-  -- a first child, as it is read
-  pub table-child : {v child : ℕ} → v < countOf file → child ≡ wordOf s v childWord → child ≡ firstChild (treeOf file) v
-  table-child h e = e ∙ r .stored .words .child _ h
 
 -- ---- at a node with n caches at or below it
 

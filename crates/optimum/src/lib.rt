@@ -21,6 +21,7 @@ ghost use Rattle.lines.specs.Line.{entryOf};
 ghost use Rattle.table.specs.Table.{Table};
 ghost use Rattle.optimum.specs.Walk.{nodesFrom, RowToSplit, RowToWalk, NodeToWalk};
 ghost use Rattle.optimum.specs.Budgets.{planRow, Budget, Buffers};
+use table::Wish;
 use tree_file::Checked;
 use tree_file::Ruling;
 use units::Total;
@@ -216,7 +217,7 @@ fn write_budget(
     ensures { λ _. ⌜ now (totals .exit) ≡ set (now (totals .entry)) b (planTotal (treeOf (now (file .entry))) (demandOf (now (file .entry))) b) ⌝ }
     ensures { λ _. ⌜ now (rows .exit) ≡ sets (now (rows .entry)) (b * k) (planRow (now (file .entry)) b) ⌝ }
 {
-    let line = table::line(s, starts, widths, node_words::child_of(s, 0), 0);
+    let line = table::server_line(s, starts, widths);
     let count = better_count(line, last, b);
     totals[b] = lines::entry(line, count).0;
     write_row(file, k, s, starts, widths, rows, count, b * k);
@@ -264,7 +265,7 @@ pub fn make_plan(
     let mut starts = [0u32; fields::Tree::NODES];
     let mut widths = [0u16; fields::Tree::NODES];
     places::note_places(file, tree, &mut starts, &mut widths);
-    table::make_table(file, tree.nodes, scratch, &starts, &widths);
+    table::make_table(file, tree.nodes, scratch, &starts, &widths, Wish::None);
     write_plan(file, tree.budget, scratch, &starts, &widths, totals, rows);
 }
 

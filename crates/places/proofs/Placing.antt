@@ -6,13 +6,13 @@ use native.Mathlib.Decide.{ℕ-discrete}
 use native.Mathlib.Omega.{arith}
 use lib.ListN.{length, set, length-set}
 use lib.Seq.{getD-set-same, getD-set-other}
-use Rattle.model.specs.File.{Tree, treeOf, countOf, budgetOf, mostNodes}
+use Rattle.model.specs.File.{Tree, treeOf, countOf, mostNodes}
 use Rattle.model.specs.Tree.{depth}
 use Rattle.model.specs.Rules.{scratchWords}
 use Rattle.model.proofs.Words.{words-most}
 use Rattle.fields.specs.declared.Tree as code
 use Rattle.tree_file.specs.Checks.{AcceptedSizes}
-use Rattle.tree_file.proofs.Accepted.{sizes-hold}
+use Rattle.tree_file.proofs.Accepted.{sizes-count, sizes-budget, sizes-hold}
 use Rattle.best_rows.specs.Rows.{rowSize}
 use Rattle.best_rows.specs.TreeRows.{rowAt}
 use Rattle.places.specs.Places.{widthAt, startAt, Places, Entries, EntriesAre, widthFrom, endFrom, Placeable, PlacedTo}
@@ -31,17 +31,14 @@ module _ {file : List ℕ} {sizes : code.Tree} (of : AcceptedSizes file sizes) w
   tree = treeOf file
 
   count : sizes .nodes ≡ countOf file
-  count = ap (λ (s : code.Tree). s .nodes) (of .of-file)
-
-  budget : sizes .budget ≡ budgetOf file
-  budget = ap (λ (s : code.Tree). s .budget) (of .of-file)
+  count = sizes-count of
 
   pub entries-of : {l : List ℕ} → mostNodes ≤ length l → Entries file (sizes .nodes) l
   entries-of long = record { accepted = of .accepted; count = count; room = long }
 
   -- behind the last node's lines the words of rule 13 end
   end-words : startAt tree (sizes .budget) (sizes .nodes) ≡ scratchWords file
-  end-words = rw (count, budget) (words-are-end file (of .accepted))
+  end-words = rw (count, sizes-budget of) (words-are-end file (of .accepted))
 
   pub placing-begins : {starts : List ℕ} (widths : List ℕ) → mostNodes ≤ length starts → mostNodes ≤ length widths
       → EntriesAre (depth tree) starts (sizes .nodes) → EntriesAre (λ v. rowSize (rowAt tree v)) widths (sizes .nodes)

@@ -258,15 +258,15 @@ fn words_of(tree: SmallTree, v: usize) -> u64
 }
 
 // The words of scratch that rule 13 asks for: those of nodes 1, 2 and so on, and 4 × n.
-pub fn scratch_words(tree: SmallTree) -> u64
+pub fn scratch_words(tree: SmallTree) -> usize
     ensures { λ r. ⌜ r ≤ 234 ⌝ }
 {
-    words_of(tree, 1)
+    (words_of(tree, 1)
         + words_of(tree, 2)
         + words_of(tree, 3)
         + words_of(tree, 4)
         + words_of(tree, 5)
-        + 4 * lesser(tree.nodes, 6)
+        + 4 * lesser(tree.nodes, 6)) as usize
 }
 
 // ---- the order of ties, and ranking
@@ -333,7 +333,7 @@ pub fn ranks_first(tree: SmallTree, first: u8, second: u8) -> bool {
     }
 }
 
-// ---- the plan and the greedy rule
+// ---- the plan
 
 // All nodes but the server, by how many nodes there are.
 const SITES: [u8; 7] = [0, 0, 2, 6, 14, 30, 62];
@@ -382,6 +382,53 @@ pub fn plan(tree: SmallTree, budget: usize) -> u8 {
     }
     best
 }
+
+// ---- with one node, or without it
+
+// The least total of some sets, if there is such a set.
+pub enum Least {
+    Total(u64),
+    NoSet,
+}
+
+// The least with one set more, of this total.
+fn lowered(least: Least, total: u64) -> Least {
+    match least {
+        Least::Total(so_far) => {
+            if so_far < total {
+                least
+            } else {
+                Least::Total(total)
+            }
+        }
+        Least::NoSet => Least::Total(total),
+    }
+}
+
+// The least total of all sets of at most so many open nodes that have node v, or of those that don't.
+fn least_where(tree: SmallTree, v: usize, member: bool, budget: usize) -> Least {
+    let mut least = Least::NoSet;
+    let mut mask = 0;
+    while mask < 64 {
+        if is_choice(tree, mask, budget) {
+            if small_trees::has(mask, v) == member {
+                least = lowered(least, total(tree, mask));
+            }
+        }
+        mask += 1;
+    }
+    least
+}
+
+pub fn least_with(tree: SmallTree, v: usize, budget: usize) -> Least {
+    least_where(tree, v, true, budget)
+}
+
+pub fn least_without(tree: SmallTree, v: usize, budget: usize) -> Least {
+    least_where(tree, v, false, budget)
+}
+
+// ---- the greedy rule
 
 // The total with a cache at v too, or as it was where none may stand there.
 fn total_with(tree: SmallTree, set: u8, v: usize) -> u64 {

@@ -1,4 +1,4 @@
-// Trees of at most six nodes with their files, sets of their nodes as masks, and a fixed sequence of such trees.
+// Trees of at most six nodes with their files, and sets of their nodes as masks.
 //
 // Nothing here is shared with the planner. A set is a mask with bit v for node v.
 ghost use Prim.Native.Nat.{_≤_};
@@ -7,7 +7,7 @@ ghost use lib.ListN.{length};
 // What a tree file says of a node. The share of its flow that a cache can serve is a hit ratio in thousandths in version 1,
 // and cachable bytes from version 2 on. A node is open where a cache may stand there: in versions 1 and 2 each node is.
 pub struct Record {
-    parent: u16,
+    pub parent: u16,
     pub length: u16,
     pub flow: u32,
     pub share: u32,
@@ -16,7 +16,7 @@ pub struct Record {
 
 // A tree and the version of its file, with zeros for the nodes that it lacks.
 pub struct SmallTree {
-    version: u16,
+    pub version: u16,
     pub nodes: usize,
     pub budget: usize,
     records: [Record; 6],
@@ -31,9 +31,35 @@ const NO_RECORD: Record = Record {
     open: false,
 };
 
+// A tree whose records are still to come.
+pub fn bare_tree(version: u16, nodes: usize, budget: usize) -> SmallTree {
+    SmallTree {
+        version,
+        nodes,
+        budget,
+        records: [NO_RECORD; 6],
+    }
+}
+
+// The tree with this record for node v.
+pub fn with_record(tree: SmallTree, v: usize, record: Record) -> SmallTree {
+    let mut next = tree;
+    if v < 6 {
+        next.records[v] = record;
+    }
+    next
+}
+
 // Are the shares hit ratios?
 pub fn has_ratios(tree: SmallTree) -> bool {
     tree.version == 1
+}
+
+// The tree's budget, at most 6.
+pub fn budget_of(tree: SmallTree) -> usize
+    ensures { λ r. ⌜ r ≤ 6 ⌝ }
+{
+    if tree.budget < 6 { tree.budget } else { 6 }
 }
 
 // What the tree says of node v.
@@ -335,228 +361,4 @@ pub fn write_file(tree: SmallTree, out: &mut [u8]) -> usize
         end += 1;
     }
     end
-}
-
-// ---- a sequence of trees
-
-// The numbers of nodes, one after the other.
-const COUNTS: [usize; 12] = [1, 2, 3, 4, 5, 5, 5, 6, 6, 6, 6, 6];
-
-// The next number of a congruential sequence.
-fn after(number: u64) -> u64 {
-    number % 2147483647 * 48271 % 2147483647
-}
-
-// The styles from here on have clients only at nodes without children.
-const LEAVES: u64 = 27;
-
-// A style: 27 with clients anywhere, and as often one of four with clients at leaves, positive values and all of a flow
-// cachable.
-fn style_by(number: u64) -> u64 {
-    let style = number % 54;
-    if style < LEAVES {
-        return style;
-    }
-    LEAVES + style % 2 + style / 2 % 2 * 3
-}
-
-// By style: 1; 1 or 2; 0, 1 or 2.
-fn value(number: u64, style: u64) -> u64
-    ensures { λ r. ⌜ r ≤ 2 ⌝ }
-{
-    let choice = style % 3;
-    if choice == 0 {
-        return 1;
-    }
-    if choice == 1 {
-        return 1 + number % 2;
-    }
-    number % 3
-}
-
-// A length for node v; the server has none.
-fn length_by(v: usize, number: u64, style: u64) -> u64
-    ensures { λ r. ⌜ r ≤ 2 ⌝ }
-{
-    if v == 0 {
-        return 0;
-    }
-    value(number, style)
-}
-
-// By style: 1,000; 1,000 or 500; 0, 1,000 or 500.
-fn hit_by(number: u64, style: u64) -> u64
-    ensures { λ r. ⌜ r ≤ 1000 ⌝ }
-{
-    let choice = value(number, style);
-    if choice == 1 {
-        return 1000;
-    }
-    250 * choice
-}
-
-// A parent for node v: a node on the route of node v - 1.
-fn parent_by(tree: SmallTree, v: usize, number: u64) -> u16 {
-    if v == 0 {
-        return 0;
-    }
-    let way = route(tree, v - 1);
-    let choices = size(way) as u64;
-    if choices == 0 {
-        return 0;
-    }
-    (member(way, (number % choices) as usize) % 6) as u16
-}
-
-// A flow; from version 2 on three times as large, so that a part of it is seldom a whole thousandth.
-fn flow_by(tree: SmallTree, number: u64, style: u64) -> u64
-    ensures { λ r. ⌜ r ≤ 6 ⌝ }
-{
-    let flow = value(number, style);
-    if has_ratios(tree) {
-        return flow;
-    }
-    3 * flow
-}
-
-// By style: the flow; the flow or 1 to 5 bytes of it; nothing, the flow or 1 to 5 bytes of it.
-fn cachable_by(number: u64, style: u64, flow: u64) -> u64
-    requires { ⌜ flow ≤ 6 ⌝ }
-    ensures { λ r. ⌜ r ≤ 6 ⌝ }
-{
-    let choice = value(number, style);
-    let bytes = 1 + number / 6 % 5;
-    if choice == 0 {
-        return 0;
-    }
-    if choice == 1 {
-        return flow;
-    }
-    if bytes < flow {
-        return bytes;
-    }
-    flow
-}
-
-// A share of this flow.
-fn share_by(tree: SmallTree, number: u64, style: u64, flow: u64) -> u64
-    requires { ⌜ flow ≤ 6 ⌝ }
-    ensures { λ r. ⌜ r ≤ 1000 ⌝ }
-{
-    if has_ratios(tree) {
-        return hit_by(number, style);
-    }
-    cachable_by(number, style, flow)
-}
-
-// Is a node open? In version 3 two of three are.
-fn open_by(tree: SmallTree, number: u64) -> bool {
-    if tree.version < 3 {
-        return true;
-    }
-    number % 3 != 0
-}
-
-// A record for node v of a tree that has those before it.
-fn record_by(tree: SmallTree, v: usize, number: u64, style: u64) -> Record {
-    let flow = flow_by(tree, number / 360, style / 3);
-    Record {
-        parent: parent_by(tree, v, number),
-        length: length_by(v, number / 60, style) as u16,
-        flow: flow as u32,
-        share: share_by(tree, number / 2160, style / 9, flow) as u32,
-        open: open_by(tree, number / 64800),
-    }
-}
-
-// The tree with this record for node v.
-fn with_record(tree: SmallTree, v: usize, record: Record) -> SmallTree {
-    let mut next = tree;
-    if v < 6 {
-        next.records[v] = record;
-    }
-    next
-}
-
-// The tree with no flow at v, and no cachable bytes.
-fn without_client(tree: SmallTree, v: usize) -> SmallTree {
-    let mut record = record_of(tree, v);
-    record.flow = 0;
-    if !has_ratios(tree) {
-        record.share = 0;
-    }
-    with_record(tree, v, record)
-}
-
-// A tree with a record for node v, if it has that node.
-fn grown(tree: SmallTree, v: usize, number: u64, style: u64) -> SmallTree {
-    if tree.nodes <= v {
-        return tree;
-    }
-    let record = record_by(tree, v, number, style);
-    if style < LEAVES {
-        return with_record(tree, v, record);
-    }
-    with_record(without_client(tree, record.parent as usize), v, record)
-}
-
-// One version as often as another.
-fn version_by(number: u64) -> u16 {
-    if number % 6 < 2 {
-        return 3;
-    }
-    1 + (number % 2) as u16
-}
-
-// A tree whose records are still to come.
-fn bare_tree(version: u16, nodes: usize, budget: usize) -> SmallTree {
-    SmallTree {
-        version,
-        nodes,
-        budget,
-        records: [NO_RECORD; 6],
-    }
-}
-
-// The number that tree i of the sequence begins with.
-fn first_number(i: u64) -> u64 {
-    after(after(i % 1000000 + 1))
-}
-
-// Tree i of a fixed sequence in this version: 1 to 6 nodes, a budget from 0 to 6, and records by the numbers that follow i.
-fn tree_by(version: u16, i: u64) -> SmallTree {
-    let place = (i % 12) as usize;
-    let mut number = first_number(i);
-    let style = style_by(number / 7);
-    let mut tree = bare_tree(version, COUNTS[place], (number % 7) as usize);
-    let mut v = 0;
-    while v < 6 {
-        number = after(number);
-        tree = grown(tree, v, number, style);
-        v += 1;
-    }
-    tree
-}
-
-// Tree i of a fixed sequence, of any version.
-pub fn nth_tree(i: u64) -> SmallTree {
-    tree_by(version_by(first_number(i) / 378), i)
-}
-
-// The tree with node v open or closed.
-fn opened(tree: SmallTree, v: usize, open: bool) -> SmallTree {
-    let mut record = record_of(tree, v);
-    record.open = open;
-    with_record(tree, v, record)
-}
-
-// Tree i of the sequence in version 3, of which just these nodes are open.
-pub fn nth_tree_open_at(i: u64, open: u8) -> SmallTree {
-    let mut tree = tree_by(3, i);
-    let mut v = 0;
-    while v < 6 {
-        tree = opened(tree, v, has(open, v));
-        v += 1;
-    }
-    tree
 }

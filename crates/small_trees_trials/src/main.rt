@@ -2,10 +2,12 @@
 //
 // `NAME nth I MASK` takes tree I of the sequence, `NAME file FILE MASK` the tree of a file. The answer is the name, the
 // tree's file, the plan's total and set for each budget, the greedy rule's totals and nodes, the bill of the set that
-// the mask says, for each set in order of masks how many rank before it, and the words of scratch that are asked.
+// the mask says, for each set in order of masks how many rank before it, the words of scratch that are asked, and for each node
+// and each budget the least totals with the node and without it.
 ghost use Prim.Native.Nat.{_≤_};
 use libc::STDIN_FILENO;
 use libc::STDOUT_FILENO;
+use small_plans::Least;
 use small_trees::SmallTree;
 
 fn print_file(tree: SmallTree) {
@@ -124,8 +126,52 @@ fn print_ranks(tree: SmallTree) {
 
 fn print_words(tree: SmallTree) {
     io::write_all(STDOUT_FILENO, b" words");
-    trial_text::print_number(small_plans::scratch_words(tree));
+    trial_text::print_number(small_plans::scratch_words(tree) as u64);
 }
+
+// ---- with a node, or without it
+
+fn print_least(least: Least) {
+    match least {
+        Least::Total(total) => {
+            trial_text::print_number(total);
+        }
+        Least::NoSet => {
+            io::write_all(STDOUT_FILENO, b" none");
+        }
+    }
+}
+
+fn print_both(tree: SmallTree, v: usize, b: usize) {
+    if b <= tree.budget {
+        print_least(small_plans::least_with(tree, v, b));
+        print_least(small_plans::least_without(tree, v, b));
+    }
+}
+
+fn print_node_minima(tree: SmallTree, v: usize) {
+    if v < tree.nodes {
+        io::write_all(STDOUT_FILENO, b" node");
+        trial_text::print_number(v as u64);
+        print_both(tree, v, 0);
+        print_both(tree, v, 1);
+        print_both(tree, v, 2);
+        print_both(tree, v, 3);
+        print_both(tree, v, 4);
+        print_both(tree, v, 5);
+        print_both(tree, v, 6);
+    }
+}
+
+fn print_minima(tree: SmallTree) {
+    print_node_minima(tree, 1);
+    print_node_minima(tree, 2);
+    print_node_minima(tree, 3);
+    print_node_minima(tree, 4);
+    print_node_minima(tree, 5);
+}
+
+// ---- cases
 
 fn answer(tree: SmallTree, mask: u64) {
     print_file(tree);
@@ -134,14 +180,13 @@ fn answer(tree: SmallTree, mask: u64) {
     print_bill(tree, (mask % 64) as u8);
     print_ranks(tree);
     print_words(tree);
+    print_minima(tree);
 }
-
-// ---- cases
 
 fn tree_of(line: &[u8]) -> SmallTree {
     let source = trial_text::word(line, 2);
     if check::same(trial_text::word(line, 1), b"nth") {
-        return small_trees::nth_tree(trial_text::number(source));
+        return tree_sequence::nth_tree(trial_text::number(source));
     }
     let mut space = [0u8; 87];
     let n = trial_text::put_file(source, &mut space);

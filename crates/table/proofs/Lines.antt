@@ -8,7 +8,7 @@ use native.Mathlib.Omega.{arith}
 use lib.ListN.{length, take, drop}
 use lib.Seq.{sets}
 use Rattle.laws.specs.Lists.{range}
-use Rattle.laws.proofs.Bools.{by-test}
+use Rattle.laws.proofs.Bools.{by-test, cond-both}
 use Rattle.laws.proofs.Lists.{length-of-range}
 use Rattle.laws.proofs.Stores.{sets-part}
 use Rattle.laws.proofs.FrontValues.{same-on-range}
@@ -17,7 +17,7 @@ use Rattle.model.specs.Bill.{price}
 use Rattle.model.specs.Accepted.{Sound}
 use Rattle.best_rows.specs.Rows.{rowSize}
 use Rattle.best_rows.specs.Best.{cap}
-use Rattle.best_rows.specs.Guarded.{guarded, mayBe}
+use Rattle.best_rows.specs.Guarded.{guarded, mayBe, Wish, grants, mayBeUnder}
 use Rattle.best_rows.specs.TreeRows.{firstChild, nextSibling, rowAt}
 use Rattle.best_rows.specs.BestAt.{one, prefer, site, bestAt, payAt, childrenAt, siblingsAt, nodeBestAt}
 use Rattle.best_rows.proofs.TreeRows.{row-at-none}
@@ -39,6 +39,14 @@ module _ (t : Tree) (d : Demand) (v u : ℕ) {x : ℕ} where
   pub pays-above : x ≡ price t d v u → x ≡ payAt t d (mayBe t) v u false
   unfolding mayBe
   pays-above e = e
+
+  -- and under a wish, where it is the cap if the wish does not let it
+  module _ (w : Wish) {y : ℕ} where
+    pub wished-itself : x ≡ asCache t d v → y ≡ cond (grants w v true) x cap → y ≡ payAt t d (mayBeUnder t w) v u true
+    wished-itself e f = f ∙ rw (pays-itself e) (sym (cond-both (grants w v true) (mayBe t v true) (price t d v v) cap))
+
+    pub wished-above : x ≡ price t d v u → y ≡ cond (grants w v false) x cap → y ≡ payAt t d (mayBeUnder t w) v u false
+    wished-above e f = f ∙ rw (pays-above e) (sym (cond-both (grants w v false) (mayBe t v false) (price t d v u) cap))
 
 -- ---- how many entries a line has
 

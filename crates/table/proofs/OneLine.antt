@@ -10,7 +10,7 @@ use Rattle.laws.specs.Lists.{range, part}
 use Rattle.laws.proofs.FrontValues.{same-on-range}
 use Rattle.model.specs.File.{treeOf, demandOf, countOf, budgetOf}
 use Rattle.model.proofs.Accepted.{accepted-header}
-use Rattle.best_rows.specs.Guarded.{mayBe}
+use Rattle.best_rows.specs.Guarded.{Wish, mayBeUnder}
 use Rattle.best_rows.specs.TreeRows.{firstChild, nextSibling, NoneOrChild}
 use Rattle.best_rows.specs.BestAt.{childrenAt, siblingsAt}
 use Rattle.best_rows.proofs.TreeRows.{first-child-stands, next-sibling-stands}
@@ -22,11 +22,11 @@ use Rattle.lines.proofs.HeldBest.{holds-empty}
 use Rattle.lines.proofs.Row.{own-taken, rest-taken, row-parts, row-is-line, best-is-own, leaf-is-own}
 use Rattle.table.specs.Table.{lineAt, InTable, lineIn, placeOf, lineFor, LineToFill, ChildAndSibling, withLine}
 use Rattle.table.proofs.Places.{line-none, width-some, place-next, place-from, place-within, words-before}
-use Rattle.table.proofs.Lines.{pays-itself, pays-above, width-within, siblings-narrower, last-width, leaf-width, best-at-empty, line-read, line-put, parts-read}
+use Rattle.table.proofs.Lines.{width-within, siblings-narrower, last-width, leaf-width, best-at-empty, line-read, line-put, parts-read}
 use Rattle.table.proofs.Room.{width-none, room-sound, room-width, room-line, room-place}
 use Rattle.table.proofs.Reading.{length-line, own-place, children-place, siblings-place, lines-hold-best}
 
-module _ {file starts widths s : List ℕ} {v a u member other : ℕ} (r : LineToFill file starts widths s v a u member other) where
+module _ {file : List ℕ} {wish : Wish} {starts widths s : List ℕ} {v a u member other : ℕ} (r : LineToFill file wish starts widths s v a u member other) where
   -- the lines of children and later siblings are there
   pub filled-before : placeOf (treeOf file) (budgetOf file) v (a + 1) ≤ startAt (treeOf file) (budgetOf file) (v + 1)
   filled-before =
@@ -57,15 +57,15 @@ module _ {file starts widths s : List ℕ} {v a u member other : ℕ} (r : LineT
       (x : cached ≡ lineIn starts widths s child deep) (y : uncached ≡ lineIn starts widths s child a) (z : rest ≡ lineIn starts widths s sibling a) where
     held : let t = treeOf file in
         let d = demandOf file in
-        LinesHoldBest (budgetOf file + 1) (childrenAt t d (mayBe t) v u) (siblingsAt t d (mayBe t) v u) cached uncached rest
+        LinesHoldBest (budgetOf file + 1) (childrenAt t d (mayBeUnder t wish) v u) (siblingsAt t d (mayBeUnder t wish) v u) cached uncached rest
     held = lines-hold-best (r .table) (r .served) filled-before (near .0) (near .1) e x y z
 
     pub parts : LineParts cached uncached rest member other
     parts =
         let t = treeOf file in
         let d = demandOf file in
-        parts-read t d (mayBe t) (budgetOf file) (room-sound (r .table .stored .room)) (r .served) held
-        (pays-itself t d v u (r .pays-itself)) (pays-above t d v u (r .pays-above))
+        parts-read t d (mayBeUnder t wish) (budgetOf file) (room-sound (r .table .stored .room)) (r .served) held
+        (r .pays-itself) (r .pays-above)
 
     -- the later siblings' line is no longer than the row's
     pub rest-few : {w : ℕ} → w ≡ getD widths v 0 → length rest ≤ w
@@ -85,24 +85,24 @@ module _ {file starts widths s : List ℕ} {v a u member other : ℕ} (r : LineT
     module _ {w start : ℕ} {l : List ℕ} (f : w ≡ getD widths v 0) (g : start ≡ lineAt starts widths v a)
         (is : l ≡ map (lineBest cached uncached rest member other) (range 0 w)) where
       -- what is made of them is the line
-      made : let t = treeOf file in l ≡ lineFor t (demandOf file) (mayBe t) (budgetOf file) v a
+      made : let t = treeOf file in l ≡ lineFor t (demandOf file) (mayBeUnder t wish) (budgetOf file) v a
       made =
           let t = treeOf file in
           let d = demandOf file in
-          line-read t d (mayBe t) (budgetOf file) l (r .served) held (line-width f) (pays-itself t d v u (r .pays-itself)) (pays-above t d v u (r .pays-above)) is
+          line-read t d (mayBeUnder t wish) (budgetOf file) l (r .served) held (line-width f) (r .pays-itself) (r .pays-above) is
 
       place : start ≡ placeOf (treeOf file) (budgetOf file) v a
       place = g ∙ room-line (r .table .stored .room) v a (r .served .node)
 
       -- stored where it is to stand
-      line-set : sets s start l ≡ withLine file s v a
+      line-set : sets s start l ≡ withLine file wish s v a
       line-set = rw (made, place)
 
       -- or made there
-      pub line-stored : take start s ++ (l ++ drop (start + w - start) (drop start s)) ≡ withLine file s v a
+      pub line-stored : take start s ++ (l ++ drop (start + w - start) (drop start s)) ≡ withLine file wish s v a
       line-stored =
           let t = treeOf file in
-          line-put t (demandOf file) (mayBe t) (budgetOf file) v a start w s (line-fits f g) (line-width f) made ∙ rw place
+          line-put t (demandOf file) (mayBeUnder t wish) (budgetOf file) v a start w s (line-fits f g) (line-width f) made ∙ rw place
 
     -- ---- by a join of two local lines: the node's own, and a copy of its later siblings'
 
@@ -198,11 +198,11 @@ module _ {file starts widths s : List ℕ} {v a u member other : ℕ} (r : LineT
             parts = last-parts .node-parts;
           }
 
-      pub last-line : {l : List ℕ} → l ≡ sets s start (map (lineOwn (part s cached n) (part s uncached n) member other) (range 0 w)) → l ≡ withLine file s v a
+      pub last-line : {l : List ℕ} → l ≡ sets s start (map (lineOwn (part s cached n) (part s uncached n) member other) (range 0 w)) → l ≡ withLine file wish s v a
       last-line is =
           let t = treeOf file in
           let d = demandOf file in
-          let none = holds-empty _ _ _ (held near e (line-part child deep x q) (line-part child a y q) refl .rest-is) (λ m. rw no-siblings (best-at-empty t d (mayBe t) u m)) in
+          let none = holds-empty _ _ _ (held near e (line-part child deep x q) (line-part child a y q) refl .rest-is) (λ m. rw no-siblings (best-at-empty t d (mayBeUnder t wish) u m)) in
           is ∙ line-set near e (line-part child deep x q) (line-part child a y q) refl f g (same-on-range _ _ 0 w (λ m _ _. sym (best-is-own _ _ _ member other m none)))
 
     -- no children
@@ -233,11 +233,11 @@ module _ {file starts widths s : List ℕ} {v a u member other : ℕ} (r : LineT
             parts = record { cached-line = leaf-parts .rest-line; uncached-line = leaf-parts .rest-line; alike = refl; pays = leaf-parts .node-parts .pays };
           }
 
-      pub leaf-line : {l : List ℕ} → l ≡ sets s start (map (lineOwn (part s rest n) (part s rest n) member other) (range 0 w)) → l ≡ withLine file s v a
+      pub leaf-line : {l : List ℕ} → l ≡ sets s start (map (lineOwn (part s rest n) (part s rest n) member other) (range 0 w)) → l ≡ withLine file wish s v a
       leaf-line is =
           let t = treeOf file in
           let d = demandOf file in
           let lines = held near refl refl refl (line-part sibling a x q) in
-          let own = holds-empty _ _ _ (lines .cached-is) (λ m. rw no-children (best-at-empty t d (mayBe t) v m)) in
-          let under = holds-empty _ _ _ (lines .uncached-is) (λ m. rw no-children (best-at-empty t d (mayBe t) u m)) in
+          let own = holds-empty _ _ _ (lines .cached-is) (λ m. rw no-children (best-at-empty t d (mayBeUnder t wish) v m)) in
+          let under = holds-empty _ _ _ (lines .uncached-is) (λ m. rw no-children (best-at-empty t d (mayBeUnder t wish) u m)) in
           is ∙ line-set near refl refl refl (line-part sibling a x q) f g (same-on-range _ _ 0 w (λ m _ _. sym (leaf-is-own _ _ _ member other m own under)))

@@ -47,7 +47,7 @@ module _ {file : List ℕ} {allows : ℕ → Bool → Bool} {starts widths s : L
   -- the line of a row of children of p after v, where u is their ancestor at depth a, is in the table and holds its least costs
   module _ (v p c a u : ℕ) (before : i ≤ startAt (treeOf file) (budgetOf file) (v + 1)) (stands : NoneOrChild (treeOf file) v p c)
       (way : 0 < c → treeOf file .parent c ≡ p → (a < depth (treeOf file) c) × (ancestorAt (treeOf file) c a ≡ u)) where
-    row-place : InTable starts widths s c a
+    pub row-place : InTable starts widths s c a
     row-place =
         room-place (r .stored .room) c a (⊎-elim (λ e. omega (arith, room-sound (r .stored .room) .some)) (λ g. g .1) stands)
         (λ some. ⊎-elim (λ e. absurd (omega arith)) (λ g. way some (g .2) .0) stands)

@@ -9,10 +9,13 @@ use Rattle.model.specs.Tree.{depth, distance}
 use Rattle.model.specs.Rules.{scratchWords}
 use Rattle.model.specs.Accepted.{Sound}
 use Rattle.model.proofs.Accepted.{accepted-sound}
+use Rattle.fields.specs.declared.Tree as code
+use Rattle.tree_file.specs.Checks.{AcceptedSizes}
+use Rattle.tree_file.proofs.Accepted.{sizes-budget}
 use Rattle.node_words.specs.Words.{nodeWords, HasNode, NodeRoom}
 use Rattle.node_words.proofs.Words.{node-words-same}
 use Rattle.best_rows.proofs.Table.{row-size-none}
-use Rattle.places.specs.Places.{widthAt, startAt}
+use Rattle.places.specs.Places.{widthAt, startAt, Places}
 use Rattle.places.proofs.Places.{start-first, start-later, words-are-end}
 use Rattle.table.specs.Table.{lineAt, InTable, placeOf, TableRoom, NodeWordsStored, Client}
 use Rattle.table.proofs.Places.{place-within}
@@ -21,6 +24,11 @@ use Rattle.table.proofs.Places.{place-within}
 pub width-none : (file : List ℕ) → widthAt (treeOf file) (budgetOf file) 0 ≡ 1
 unfolding widthAt
 width-none file = omega (arith, row-size-none (treeOf file))
+
+-- a scratch that rule 13 lets pass has room for the table, once the places are noted
+pub table-room : {file starts widths s : List ℕ} {sizes : code.Tree} → AcceptedSizes file sizes → scratchWords file ≤ length s
+    → Places (treeOf file) (sizes .budget) starts widths → TableRoom file starts widths s
+table-room of room p = record { accepted = of .accepted; places = rw (sizes-budget of) at p; room = room }
 
 module _ {file starts widths s : List ℕ} (r : TableRoom file starts widths s) where
   pub room-sound : Sound (treeOf file) (demandOf file)

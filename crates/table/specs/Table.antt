@@ -1,6 +1,6 @@
 -- Where the lines of the plan's table stand in the scratch, behind the words of the nodes, and what they hold.
 use mathlib.Core.Path.{_≡_}
-use mathlib.Core.Bool.{Bool, cond}
+use mathlib.Core.Bool.{Bool, true, false, cond}
 use mathlib.Core.List.{List, map}
 use Prim.Native.Nat.{ℕ, zero, suc, _+_, _*_, _≤_, _<_}
 use lib.ListN.{length, getD}
@@ -12,9 +12,9 @@ use Rattle.model.specs.Tree.{depth, distance}
 use Rattle.model.specs.Rules.{passed, fileVerdict, scratchWords}
 use Rattle.model.specs.Bill.{price}
 use Rattle.best_rows.specs.Best.{cap}
-use Rattle.best_rows.specs.Guarded.{mayBe}
-use Rattle.best_rows.specs.BestAt.{bestAt}
-use Rattle.node_words.specs.Words.{wordOf, childWord, siblingWord, NodeRoom, NodeWords}
+use Rattle.best_rows.specs.Guarded.{Wish, mayBeUnder}
+use Rattle.best_rows.specs.BestAt.{bestAt, payAt}
+use Rattle.node_words.specs.Words.{wordOf, childWord, siblingWord, HasNode, NodeRoom, NodeWords}
 use Rattle.node_words.specs.Ancestors.{ancestorAt}
 use Rattle.places.specs.Places.{widthAt, startAt, Places}
 
@@ -39,6 +39,11 @@ pub record InTable (starts widths s : List ℕ) (x a : ℕ) : Type 0 where
 unfoldable pub placeOf : Tree → ℕ → ℕ → ℕ → ℕ
 placeOf t k zero a = 0
 placeOf t k (suc x) a = startAt t k (suc x) + a * widthAt t k (suc x)
+
+-- the server has its words, and the line of the row of its children, for the server as the serving node, is in the scratch
+pub record ServerLineThere (starts widths s : List ℕ) : Type 0 where
+  pub node : HasNode s 0
+  pub line : InTable starts widths s (wordOf s 0 childWord) 0
 
 -- ---- what the lines hold
 
@@ -103,20 +108,20 @@ pub record Client (file s : List ℕ) (v u : ℕ) : Type 0 where
 
 -- ---- one line
 
--- what the line of node v with its ancestor u at depth a as the serving node is made from: the table from the next line on, and
--- what v pays as a cache and as none
-pub record LineToFill (file starts widths s : List ℕ) (v a u member other : ℕ) : Type 0 where
-  pub table : TableFrom file (mayBe (treeOf file)) starts widths s (placeOf (treeOf file) (budgetOf file) v (a + 1))
+-- what the line of node v with its ancestor u at depth a as the serving node is made from, under a wish: the table from the next line
+-- on, and what v pays as a cache and as none
+pub record LineToFill (file : List ℕ) (w : Wish) (starts widths s : List ℕ) (v a u member other : ℕ) : Type 0 where
+  pub table : TableFrom file (mayBeUnder (treeOf file) w) starts widths s (placeOf (treeOf file) (budgetOf file) v (a + 1))
   pub served : Served (treeOf file) v a u
-  pub pays-itself : member ≡ asCache (treeOf file) (demandOf file) v
-  pub pays-above : other ≡ price (treeOf file) (demandOf file) v u
+  pub pays-itself : member ≡ payAt (treeOf file) (demandOf file) (mayBeUnder (treeOf file) w) v u true
+  pub pays-above : other ≡ payAt (treeOf file) (demandOf file) (mayBeUnder (treeOf file) w) v u false
 
 -- v's first child and next sibling
 abbrev pub ChildAndSibling : List ℕ → ℕ → ℕ → ℕ → Type 0
 ChildAndSibling s v child sibling = (child ≡ wordOf s v childWord) × (sibling ≡ wordOf s v siblingWord)
 
 -- s with that line stored in its place
-abbrev pub withLine : List ℕ → List ℕ → ℕ → ℕ → List ℕ
-withLine file s v a =
+abbrev pub withLine : List ℕ → Wish → List ℕ → ℕ → ℕ → List ℕ
+withLine file w s v a =
     let t = treeOf file in
-    sets s (placeOf t (budgetOf file) v a) (lineFor t (demandOf file) (mayBe t) (budgetOf file) v a)
+    sets s (placeOf t (budgetOf file) v a) (lineFor t (demandOf file) (mayBeUnder t w) (budgetOf file) v a)

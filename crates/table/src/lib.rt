@@ -1,15 +1,19 @@
 // The plan's table in the scratch, behind the words of the nodes: a line for each node and each depth of a serving node above it,
 // filled from the last node to the first.
 ghost use mathlib.Core.Path.{_≡_};
+ghost use mathlib.Core.Bool.{cond};
 ghost use Prim.Native.Nat.{_+_, _*_, _≤_, _<_, _^_, min};
 ghost use lib.ListN.{length, getD};
 ghost use Rattle.model.specs.File.{recordLength, countOf, budgetOf, treeOf, demandOf};
 ghost use Rattle.model.specs.Bill.{cachable, price};
 ghost use Rattle.model.specs.Situations.{firstSituation, costIn};
-ghost use Rattle.best_rows.specs.Guarded.{mayBe};
+ghost use Rattle.best_rows.specs.Best.{cap};
+ghost use Rattle.best_rows.specs.Guarded.{grants, mayBeUnder};
+ghost use Rattle.node_words.specs.Words.{wordOf, childWord};
 ghost use Rattle.places.specs.Places.{startAt};
-ghost use Rattle.table.specs.Table.{lineAt, InTable, lineIn, TableRoom, NodeWordsStored, LinesFilled, TableFrom, asCache, Client, LineToFill, ChildAndSibling, withLine};
+ghost use Rattle.table.specs.Table.{lineAt, InTable, lineIn, ServerLineThere, TableRoom, NodeWordsStored, LinesFilled, TableFrom, asCache, Client, LineToFill, ChildAndSibling, withLine};
 ghost use Rattle.table.specs.Situations.{situationOf};
+ghost use Rattle.table.specs.Wishes.{wishOf};
 use units::Distance;
 use units::Flow;
 use units::Total;
@@ -57,6 +61,14 @@ pub fn line<'a>(s: &'a [u64], starts: &[u32], widths: &[u16], x: usize, a: usize
 {
     let start = line_at(starts, widths, x, a);
     &s[start..start + width_of(widths, x)]
+}
+
+// The line of the row of the server's children: for each number of caches the least cost of all sites together.
+pub fn server_line<'a>(s: &'a [u64], starts: &[u32], widths: &[u16]) -> &'a [u64]
+    requires { ⌜ ServerLineThere (now starts) (now widths) (now s) ⌝ }
+    ensures { λ r. ⌜ now r ≡ lineIn (now (starts .entry)) (now (widths .entry)) (now (s .entry)) (wordOf (now (s .entry)) 0 childWord) 0 ⌝ }
+{
+    line(s, starts, widths, node_words::child_of(s, 0), 0)
 }
 
 // ---- a node's own cost
@@ -133,6 +145,40 @@ pub fn pays_itself(file: &[u8], size: usize, part: Flow, s: &[u64], v: usize) ->
     Total::CAP
 }
 
+// ---- a wish for one node
+
+// No wish, or that a node, by its number, is a cache (true), or that it is not (false).
+pub enum Wish {
+    None,
+    Node(usize, bool),
+}
+
+// Does a wish let node v be a cache (`cached`), or not be one?
+fn grants(wish: Wish, v: usize, cached: bool) -> bool
+    ensures { λ r. ⌜ r ≡ grants (wishOf wish) v cached ⌝ }
+{
+    match wish {
+        Wish::None => true,
+        Wish::Node(x, wished) => {
+            if v != x {
+                return true;
+            }
+            cached == wished
+        }
+    }
+}
+
+// What node v pays under a wish as a cache (`cached`), or as none, where that is `price` without the wish: the cap if the wish
+// does not let it.
+fn price_under(wish: Wish, v: usize, cached: bool, price: Total) -> Total
+    ensures { λ r. ⌜ r .0 ≡ cond (grants (wishOf wish) v cached) (price .0) cap ⌝ }
+{
+    if !grants(wish, v, cached) {
+        return Total::CAP;
+    }
+    price
+}
+
 // ---- one line
 
 // How many entries the line of a node and its children has, where the children's has `children` and the row's w.
@@ -145,7 +191,7 @@ fn own_end(w: usize, children: usize) -> usize
 
 // The three functions below store the line of node v with its ancestor u at depth a as the serving node, from the lines of v's
 // children (served by v, and by u) and of its later siblings (served by u). As a cache v itself pays `member`, else `other`.
-// `file` and `u` serve the contracts alone.
+// `file`, `wish` and `u` serve the contracts alone.
 
 // Where v has no later siblings: the row's line is that of v and its children.
 fn fill_last(
@@ -159,10 +205,11 @@ fn fill_last(
     child: usize,
     member: Total,
     other: Total,
+    wish: Wish,
 )
-    requires { ⌜ LineToFill (now file) (now starts) (now widths) (now s) v a u (member .0) (other .0) ⌝ }
+    requires { ⌜ LineToFill (now file) (wishOf wish) (now starts) (now widths) (now s) v a u (member .0) (other .0) ⌝ }
     requires { ⌜ ChildAndSibling (now s) v child 0 ⌝ }
-    ensures { λ _. ⌜ now (s .exit) ≡ withLine (now (file .entry)) (now (s .entry)) v a ⌝ }
+    ensures { λ _. ⌜ now (s .exit) ≡ withLine (now (file .entry)) (wishOf wish) (now (s .entry)) v a ⌝ }
 {
     let depth = node_words::depth_word(s, v);
     let start = line_at(starts, widths, v, a);
@@ -186,10 +233,11 @@ fn fill_leaf(
     sibling: usize,
     member: Total,
     other: Total,
+    wish: Wish,
 )
-    requires { ⌜ LineToFill (now file) (now starts) (now widths) (now s) v a u (member .0) (other .0) ⌝ }
+    requires { ⌜ LineToFill (now file) (wishOf wish) (now starts) (now widths) (now s) v a u (member .0) (other .0) ⌝ }
     requires { ⌜ ChildAndSibling (now s) v 0 sibling ⌝ }
-    ensures { λ _. ⌜ now (s .exit) ≡ withLine (now (file .entry)) (now (s .entry)) v a ⌝ }
+    ensures { λ _. ⌜ now (s .exit) ≡ withLine (now (file .entry)) (wishOf wish) (now (s .entry)) v a ⌝ }
 {
     let start = line_at(starts, widths, v, a);
     let rest = line_at(starts, widths, sibling, a);
@@ -212,10 +260,11 @@ fn fill_joined(
     sibling: usize,
     member: Total,
     other: Total,
+    wish: Wish,
 )
-    requires { ⌜ LineToFill (now file) (now starts) (now widths) (now s) v a u (member .0) (other .0) ⌝ }
+    requires { ⌜ LineToFill (now file) (wishOf wish) (now starts) (now widths) (now s) v a u (member .0) (other .0) ⌝ }
     requires { ⌜ ChildAndSibling (now s) v child sibling ⌝ }
-    ensures { λ _. ⌜ now (s .exit) ≡ withLine (now (file .entry)) (now (s .entry)) v a ⌝ }
+    ensures { λ _. ⌜ now (s .exit) ≡ withLine (now (file .entry)) (wishOf wish) (now (s .entry)) v a ⌝ }
 {
     let old = &s[..];
     let depth = node_words::depth_word(old, v);
@@ -244,18 +293,31 @@ fn fill_one(
     u: usize,
     member: Total,
     other: Total,
+    wish: Wish,
 )
-    requires { ⌜ LineToFill (now file) (now starts) (now widths) (now s) v a u (member .0) (other .0) ⌝ }
-    ensures { λ _. ⌜ now (s .exit) ≡ withLine (now (file .entry)) (now (s .entry)) v a ⌝ }
+    requires { ⌜ LineToFill (now file) (wishOf wish) (now starts) (now widths) (now s) v a u (member .0) (other .0) ⌝ }
+    ensures { λ _. ⌜ now (s .exit) ≡ withLine (now (file .entry)) (wishOf wish) (now (s .entry)) v a ⌝ }
 {
     let child = node_words::child_of(s, v);
     let sibling = node_words::sibling_of(s, v);
     if sibling == 0 {
-        fill_last(file, s, starts, widths, v, a, u, child, member, other);
+        fill_last(file, s, starts, widths, v, a, u, child, member, other, wish);
         return;
     }
     if child == 0 {
-        fill_leaf(file, s, starts, widths, v, a, u, sibling, member, other);
+        fill_leaf(
+            file,
+            s,
+            starts,
+            widths,
+            v,
+            a,
+            u,
+            sibling,
+            member,
+            other,
+            wish,
+        );
         return;
     }
     fill_joined(
@@ -270,49 +332,52 @@ fn fill_one(
         sibling,
         member,
         other,
+        wish,
     );
 }
 
 // ---- the table
 
 // Stores the lines of node v, for each node above it as the serving node, from its parent up to the server.
-fn fill_node(file: &[u8], s: &mut [u64], starts: &[u32], widths: &[u16], v: usize)
+fn fill_node(file: &[u8], s: &mut [u64], starts: &[u32], widths: &[u16], v: usize, wish: Wish)
     requires { ⌜ (0 < v) × (v < countOf (now file)) ⌝ }
-    requires { ⌜ TableFrom (now file) (mayBe (treeOf (now file))) (now starts) (now widths) (now s) (startAt (treeOf (now file)) (budgetOf (now file)) (v + 1)) ⌝ }
-    ensures { λ _. ⌜ LinesFilled (now (file .entry)) (mayBe (treeOf (now (file .entry)))) (now (starts .entry)) (now (widths .entry)) (startAt (treeOf (now (file .entry))) (budgetOf (now (file .entry))) v) (now (s .entry)) (now (s .exit)) ⌝ }
+    requires { ⌜ TableFrom (now file) (mayBeUnder (treeOf (now file)) (wishOf wish)) (now starts) (now widths) (now s) (startAt (treeOf (now file)) (budgetOf (now file)) (v + 1)) ⌝ }
+    ensures { λ _. ⌜ LinesFilled (now (file .entry)) (mayBeUnder (treeOf (now (file .entry))) (wishOf wish)) (now (starts .entry)) (now (widths .entry)) (startAt (treeOf (now (file .entry))) (budgetOf (now (file .entry))) v) (now (s .entry)) (now (s .exit)) ⌝ }
 {
     let size = fields::record_length(file);
     let part = fields::cachable_in(file, size, v);
-    let member = pays_itself(file, size, part, s, v);
+    let itself = pays_itself(file, size, part, s, v);
+    let member = price_under(wish, v, true, itself);
     let mut a = node_words::depth_word(s, v);
     let mut u = v;
     while 0 < a {
         a -= 1;
         u = fields::parent_in(file, size, u);
-        let other = pays(file, size, part, s, v, u);
-        fill_one(file, s, starts, widths, v, a, u, member, other);
+        let above = pays(file, size, part, s, v, u);
+        let other = price_under(wish, v, false, above);
+        fill_one(file, s, starts, widths, v, a, u, member, other, wish);
     }
 }
 
 // Stores all lines, from the last node's to the first's: the lines of children and later siblings are there when they are needed.
-fn fill_table(file: &[u8], n: usize, s: &mut [u64], starts: &[u32], widths: &[u16])
+fn fill_table(file: &[u8], n: usize, s: &mut [u64], starts: &[u32], widths: &[u16], wish: Wish)
     requires { ⌜ n ≡ countOf (now file) ⌝ }
     requires { ⌜ NodeWordsStored (now file) (now starts) (now widths) (now s) ⌝ }
-    ensures { λ _. ⌜ LinesFilled (now (file .entry)) (mayBe (treeOf (now (file .entry)))) (now (starts .entry)) (now (widths .entry)) 0 (now (s .entry)) (now (s .exit)) ⌝ }
+    ensures { λ _. ⌜ LinesFilled (now (file .entry)) (mayBeUnder (treeOf (now (file .entry))) (wishOf wish)) (now (starts .entry)) (now (widths .entry)) 0 (now (s .entry)) (now (s .exit)) ⌝ }
 {
     let mut v = n;
     while 1 < v {
         v -= 1;
-        fill_node(file, s, starts, widths, v);
+        fill_node(file, s, starts, widths, v, wish);
     }
 }
 
-// Stores the words of the nodes and all lines of the plan's table, and changes nothing behind them.
-pub fn make_table(file: &[u8], n: usize, s: &mut [u64], starts: &[u32], widths: &[u16])
+// Stores the words of the nodes and all lines of the table under a wish, and changes nothing behind them.
+pub fn make_table(file: &[u8], n: usize, s: &mut [u64], starts: &[u32], widths: &[u16], wish: Wish)
     requires { ⌜ n ≡ countOf (now file) ⌝ }
     requires { ⌜ TableRoom (now file) (now starts) (now widths) (now s) ⌝ }
-    ensures { λ _. ⌜ LinesFilled (now (file .entry)) (mayBe (treeOf (now (file .entry)))) (now (starts .entry)) (now (widths .entry)) 0 (now (s .entry)) (now (s .exit)) ⌝ }
+    ensures { λ _. ⌜ LinesFilled (now (file .entry)) (mayBeUnder (treeOf (now (file .entry))) (wishOf wish)) (now (starts .entry)) (now (widths .entry)) 0 (now (s .entry)) (now (s .exit)) ⌝ }
 {
     node_words::note_nodes(file, n, s);
-    fill_table(file, n, s, starts, widths);
+    fill_table(file, n, s, starts, widths, wish);
 }

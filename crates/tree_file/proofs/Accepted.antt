@@ -8,7 +8,7 @@ use native.Mathlib.Omega.{arith}
 use lib.ListN.{length}
 use Rattle.laws.specs.Lists.{range, greatest}
 use Rattle.laws.proofs.Lists.{greatest-snoc}
-use Rattle.model.specs.File.{treeOf, demandOf, countOf, headerLength, mostNodes}
+use Rattle.model.specs.File.{treeOf, demandOf, countOf, budgetOf, headerLength, mostNodes}
 use Rattle.model.specs.Tree.{depth, height}
 use Rattle.model.specs.Rules.{passed, fileVerdict}
 use Rattle.model.proofs.Accepted.{record-before, accepted-header, accepted-sound}
@@ -29,6 +29,13 @@ module _ (file : List ℕ) (ok : fileVerdict file ≡ passed) where
   pub accepted-climbable : (v : ℕ) → v < countOf file → Climbable file v
   accepted-climbable v h =
       record { here = accepted-in-file v h; preorder = λ i _. accepted-sound file ok .preorder i }
+
+-- n and k found are the file's
+pub sizes-count : {file : List ℕ} {sizes : code.Tree} → AcceptedSizes file sizes → sizes .nodes ≡ countOf file
+sizes-count of = ap (λ z. z .nodes) (of .of-file)
+
+pub sizes-budget : {file : List ℕ} {sizes : code.Tree} → AcceptedSizes file sizes → sizes .budget ≡ budgetOf file
+sizes-budget of = ap (λ z. z .budget) (of .of-file)
 
 -- n, k and h of an accepted file are small
 pub sizes-hold : {file : List ℕ} {sizes : code.Tree} → AcceptedSizes file sizes → SizesHold sizes

@@ -205,6 +205,11 @@ pub fn entries(line: &[u8], k: usize, most: usize) -> usize
     number_within(word(line, k), most)
 }
 
+// The number that word `k` of a line says, whole.
+pub fn number_of(line: &[u8], k: usize) -> usize {
+    number(word(line, k)) as usize
+}
+
 // Writes the bytes of the file that word `k` of a line says, as `put_file` does.
 pub fn file_of(line: &[u8], k: usize, out: &mut [u8]) -> usize
     ensures { λ r. ⌜ r ≤ length (now (out .exit)) ⌝ }
@@ -220,10 +225,10 @@ pub fn numbers_of(line: &[u8], k: usize, out: &mut [u16]) -> usize
 }
 
 // Room for the text of all cases.
-pub fn text_room() -> [u8; 262144]
-    ensures { λ r. ⌜ 262144 ≡ length r ⌝ }
+pub fn text_room() -> [u8; 393216]
+    ensures { λ r. ⌜ 393216 ≡ length r ⌝ }
 {
-    [0; 262144]
+    [0; 393216]
 }
 
 // Room for the file of a case: the longest that is accepted has 13,321 bytes.
@@ -238,18 +243,6 @@ pub fn scratch_room(value: u64) -> [u64; 40960]
     ensures { λ r. ⌜ 40960 ≡ length r ⌝ }
 {
     [value; 40960]
-}
-
-// Are all words from `at` on this value?
-pub fn all_from(words: &[u64], at: usize, value: u64) -> bool {
-    let mut i = at;
-    while i < words.len() {
-        if words[i] != value {
-            return false;
-        }
-        i += 1;
-    }
-    true
 }
 
 // ---- answers, to standard output
@@ -323,7 +316,7 @@ pub fn print_plan(totals: &[u64], rows: &[u16]) {
 
 // Prints ` kept` if all words of the scratch from `beyond` on are this value.
 pub fn print_kept(scratch: &[u64], beyond: usize, value: u64) {
-    if all_from(scratch, beyond, value) {
+    if trial_buffers::all_from(scratch, beyond, value) {
         io::write_all(STDOUT_FILENO, b" kept");
     }
 }
@@ -340,4 +333,21 @@ pub fn print_bytes(bytes: &[u8]) {
 
 fn print_byte(byte: u8) {
     io::print_hex(STDOUT_FILENO, byte as u64, 2);
+}
+
+// Prints a line with how many there were of something.
+pub fn print_count(what: &[u8], count: u64) {
+    io::write_all(STDOUT_FILENO, what);
+    print_number(count);
+    end_line();
+}
+
+// Prints a line that something of tree i of a sequence differs at a budget, a node or a set.
+pub fn print_difference(i: u64, at: usize, what: &[u8]) {
+    io::write_all(STDOUT_FILENO, b"tree");
+    print_number(i);
+    io::write_all(STDOUT_FILENO, b" at");
+    print_number(at as u64);
+    io::write_all(STDOUT_FILENO, what);
+    io::write_all(STDOUT_FILENO, b" differs\n");
 }

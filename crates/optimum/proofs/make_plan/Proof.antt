@@ -1,6 +1,7 @@
 -- `make_plan`: notes where the lines stand, fills the table in the scratch, and writes the plan from it.
 use borrow.Author.Needs.{needs}
-use Rattle.optimum.proofs.Answers.{plan-places, plan-count, plan-budget-is}
+use Rattle.tree_file.proofs.Accepted.{sizes-count, sizes-budget}
+use Rattle.table.proofs.Room.{table-room}
 use Rattle.optimum.proofs.make_plan.Statement.{statement}
 use Rattle.optimum.proofs.make_plan.Tie as tie
 
@@ -27,7 +28,7 @@ make-table-requires : tie.Need-make-table-requires
 make-table-requires c κs =
     let noted = c .before .before .before .before .before in
     let room = start noted .pre .0 in
-    (plan-count room, plan-places room (noted .note-places .ensures .1))
+    (sizes-count (room .of-file), table-room (room .of-file) (room .room) (noted .note-places .ensures .1))
 
 slice-aggregate-write-plan : tie.Need-slice-aggregate-write-plan
 slice-aggregate-write-plan c = search needs
@@ -39,7 +40,7 @@ write-plan-requires : tie.Need-write-plan-requires
 write-plan-requires c κs =
     let made = c .before .before .before .before .before .before .before in
     let st = start (made .before .before .before .before .before .before) in
-    (plan-budget-is (st .pre .0), (made .make-table .ensures .table, st .pre .1))
+    (sizes-budget (st .pre .0 .of-file), (made .make-table .ensures .table, st .pre .1))
 
 same-length : tie.Need-same-length
 same-length c = search needs

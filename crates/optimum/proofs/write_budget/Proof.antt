@@ -4,20 +4,17 @@ use Prim.Native.Nat.{_*_}
 use native.Mathlib.Omega.{arith}
 use lib.ListN.{set}
 use borrow.Author.Needs.{needs}
-use Rattle.optimum.proofs.Walk.{table-sound, table-has-node}
-use Rattle.optimum.proofs.Budgets.{line-place, count-found, total-found, budget-row, row-found}
+use Rattle.table.proofs.Server.{server-there}
+use Rattle.optimum.proofs.Budgets.{count-found, total-found, budget-row, row-found}
 use Rattle.optimum.proofs.write_budget.Statement.{statement}
 use Rattle.optimum.proofs.write_budget.Tie as tie
 
 -- the start, seen from where the number of caches was found
 abbrev start : tie.After-better-count → tie.Start
-start n = n .before .before .before .before .before .before .before .before .before
+start n = n .before .before .before .before .before .before .before .before
 
-child-of-requires : tie.Need-child-of-requires
-child-of-requires c κs = let r = c .before .before .before .before .before .before .pre .0 .table in table-has-node r (table-sound r .some)
-
-line-requires : tie.Need-line-requires
-line-requires c κs = line-place (c .before .before .before .before .before .before .before .pre .0) (c .child-of .ensures)
+server-line-requires : tie.Need-server-line-requires
+server-line-requires c κs = server-there (c .before .before .before .before .before .before .pre .0 .table)
 
 better-count-requires : tie.Need-better-count-requires
 better-count-requires c κs = search needs
@@ -34,12 +31,12 @@ slice-write-totals c = omega (arith, start (c .before) .pre .0 .within, start (c
 mul-write-row : tie.Need-mul-write-row
 mul-write-row c =
     let n = c .before .before in
-    omega (arith, budget-row (start n .pre .0) (n .before .before .child-of .ensures) (n .before .line .ensures) (n .better-count .ensures) (start n .pre .1) .1, start n .good .1 .1 .1 .1 .1 .1 .0)
+    omega (arith, budget-row (start n .pre .0) (n .before .server-line .ensures) (n .better-count .ensures) (start n .pre .1) .1, start n .good .1 .1 .1 .1 .1 .1 .0)
 
 write-row-requires : tie.Need-write-row-requires
 write-row-requires c κs =
     let n = c .before .before in
-    (start n .pre .0 .budget, budget-row (start n .pre .0) (n .before .before .child-of .ensures) (n .before .line .ensures) (n .better-count .ensures) (start n .pre .1))
+    (start n .pre .0 .budget, budget-row (start n .pre .0) (n .before .server-line .ensures) (n .better-count .ensures) (start n .pre .1))
 
 same-length : tie.Need-same-length
 same-length c = search needs
@@ -52,13 +49,12 @@ returns c =
     let n = c .before .before .before .before .before in
     let b = start n .pre .0 in
     let a = start n .args in
-    let first = n .before .before .child-of .ensures in
-    let line = n .before .line .ensures in
+    let line = n .before .server-line .ensures in
     let count = n .better-count .ensures in (
-      count-found b first line count,
+      count-found b line count,
       (
-        ap (set (a .totals .now) (a .b)) (c .before .before .before .before .entry .ensures ∙ total-found b first line count),
-        row-found b first line count (a .rows .now) (a .b * a .k) (c .before .before .write-row .ensures),
+        ap (set (a .totals .now) (a .b)) (c .before .before .before .before .entry .ensures ∙ total-found b line count),
+        row-found b line count (a .rows .now) (a .b * a .k) (c .before .before .write-row .ensures),
       ),
     )
 
@@ -66,8 +62,7 @@ pub write-budget-spec : {M : Type 1} → statement M
 write-budget-spec =
     tie.close
     (tie.spec
-    child-of-requires
-    line-requires
+    server-line-requires
     better-count-requires
     entry-requires
     mul-totals

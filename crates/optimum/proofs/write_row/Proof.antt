@@ -1,7 +1,7 @@
 -- `write_row`: writes a row of the answer from `at` on: the m caches of the server's row, then zeros.
 use native.Mathlib.Omega.{arith}
 use borrow.Author.Needs.{needs}
-use Rattle.optimum.proofs.Walk.{table-sound, table-has-node}
+use Rattle.table.proofs.Server.{table-sound, table-has-node}
 use Rattle.optimum.proofs.Budgets.{row-then-zeros, row-first, row-ends-within}
 use Rattle.optimum.proofs.write_row.Statement.{statement}
 use Rattle.optimum.proofs.write_row.Tie as tie

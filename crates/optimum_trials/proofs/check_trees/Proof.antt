@@ -1,23 +1,31 @@
--- `check_trees` keeps its contract.
+-- There are at most as many trees as numbers.
+use mathlib.Core.Logic.{⊎-elim}
 use Prim.Native.Nat.{_-_, _≤_}
+use native.Mathlib.Omega.{arith}
 use borrow.Author.Needs.{needs}
 use Rattle.optimum_trials.proofs.check_trees.Statement.{statement}
 use Rattle.optimum_trials.proofs.check_trees.Tie as tie
 
 abbrev Inv-loop : tie.InvT-loop
-Inv-loop count₀ i₀ count i = i ≤ 9000
+Inv-loop first end count₀ i₀ count i = count ≤ i
 
 abbrev μ-loop : tie.MeasureT-loop
-μ-loop count₀ i₀ count i = 9000 - i
+μ-loop first end count₀ i₀ count i = end - i
 
 loop-holds : tie.Need-loop-holds Inv-loop μ-loop
 loop-holds c = search needs
+
+has-tree-requires : tie.Need-has-tree-requires Inv-loop μ-loop
+has-tree-requires c κs = search needs
 
 nth-tree-requires : tie.Need-nth-tree-requires Inv-loop μ-loop
 nth-tree-requires c κs = search needs
 
 check-tree-requires : tie.Need-check-tree-requires Inv-loop μ-loop
 check-tree-requires c κs = search needs
+
+add-count : tie.Need-add-count Inv-loop μ-loop
+add-count c = search needs
 
 add-i : tie.Need-add-i Inv-loop μ-loop
 add-i c = search needs
@@ -26,7 +34,7 @@ loop-less : tie.Need-loop-less Inv-loop μ-loop
 loop-less c = search needs
 
 loop-again : tie.Need-loop-again Inv-loop μ-loop
-loop-again c = search needs
+loop-again c = ⊎-elim (λ w. omega arith) (λ w. omega arith) (c .if1 .came)
 
 returns : tie.Need-returns Inv-loop μ-loop
 returns c = search needs
@@ -38,8 +46,10 @@ check-trees-spec =
     Inv-loop
     μ-loop
     loop-holds
+    has-tree-requires
     nth-tree-requires
     check-tree-requires
+    add-count
     add-i
     loop-less
     loop-again

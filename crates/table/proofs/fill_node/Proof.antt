@@ -3,13 +3,16 @@ use mathlib.Core.Path.{_≡_, _∙_}
 use Prim.Native.Nat.{_-_, _≤_}
 use native.Mathlib.Nat.{le-refl}
 use native.Mathlib.Omega.{arith}
-use Rattle.model.specs.File.{treeOf, budgetOf}
+use borrow.Author.Needs.{needs}
+use Rattle.model.specs.File.{treeOf, demandOf, budgetOf}
 use Rattle.model.specs.Tree.{depth}
-use Rattle.best_rows.specs.Guarded.{mayBe}
+use Rattle.best_rows.specs.Guarded.{mayBeUnder}
 use Rattle.tree_file.proofs.Accepted.{accepted-long}
 use Rattle.node_words.specs.Ancestors.{ancestorAt}
 use Rattle.node_words.proofs.Words.{room-record}
 use Rattle.table.specs.Table.{placeOf, LinesFilled, Served}
+use Rattle.table.specs.Wishes.{wishOf}
+use Rattle.table.proofs.Lines.{wished-itself, wished-above}
 use Rattle.table.proofs.Room.{room-nodes, stored-node, stored-client}
 use Rattle.table.proofs.Reading.{served-above-it}
 use Rattle.table.proofs.Climb.{climb-begins, climb-record, climb-up}
@@ -18,24 +21,24 @@ use Rattle.table.proofs.fill_node.Statement.{statement}
 use Rattle.table.proofs.fill_node.Tie as tie
 
 abbrev Inv-loop : tie.InvT-loop
-Inv-loop file s₀ starts widths v size part member a₀ u₀ s a u =
+Inv-loop file s₀ starts widths v wish size part member a₀ u₀ s a u =
     (a ≤ depth (treeOf file) v)
     × (u ≡ ancestorAt (treeOf file) v a)
-    × LinesFilled file (mayBe (treeOf file)) starts widths (placeOf (treeOf file) (budgetOf file) v a) s₀ s
+    × LinesFilled file (mayBeUnder (treeOf file) (wishOf wish)) starts widths (placeOf (treeOf file) (budgetOf file) v a) s₀ s
 
 abbrev μ-loop : tie.MeasureT-loop
-μ-loop file s₀ starts widths v size part member a₀ u₀ s a u = a
+μ-loop file s₀ starts widths v wish size part member a₀ u₀ s a u = a
 
 -- ---- the loop, seen from where the parent was read; what was read before it; and the start
 
 abbrev loop : tie.After-parent-in Inv-loop μ-loop → tie.At-loop Inv-loop μ-loop
 loop c = c .before .before
 
-abbrev member : tie.At-loop Inv-loop μ-loop → tie.After-pays-itself Inv-loop μ-loop
+abbrev member : tie.At-loop Inv-loop μ-loop → tie.After-price-under Inv-loop μ-loop
 member c = c .before .before .before
 
-abbrev part : tie.After-pays-itself Inv-loop μ-loop → tie.After-cachable-in Inv-loop μ-loop
-part c = c .before .before
+abbrev part : tie.After-price-under Inv-loop μ-loop → tie.After-cachable-in Inv-loop μ-loop
+part c = c .before .before .before
 
 abbrev start : tie.After-cachable-in Inv-loop μ-loop → tie.Start Inv-loop μ-loop
 start c = c .before .before .before .before .before .before
@@ -63,6 +66,9 @@ pays-itself-requires c κs =
     let st = start (c .before) in
     (stored-client (st .pre .1 .stored) (st .pre .0 .1) (le-refl _) (le-refl _), (c .before .before .record-length .ensures, c .before .cachable-in .ensures))
 
+price-under-requires : tie.Need-price-under-requires Inv-loop μ-loop
+price-under-requires c κs = search needs
+
 depth-word-requires : tie.Need-depth-word-requires Inv-loop μ-loop
 depth-word-requires c κs = let st = start (part (c .before)) in stored-node (st .pre .1 .stored) (st .pre .0 .1)
 
@@ -88,17 +94,22 @@ pays-requires c κs =
     let read = part (member (loop above)) in
     (served-above-it (loop above .loop .inv .2 .table) (up above), (read .before .record-length .ensures, read .cachable-in .ensures))
 
+price-under-requires-2 : tie.Need-price-under-requires-2 Inv-loop μ-loop
+price-under-requires-2 c κs = search needs
+
 fill-one-requires : tie.Need-fill-one-requires Inv-loop μ-loop
 fill-one-requires c κs =
     let other = c .before in
-    let above = other .before .before in
+    let above = other .before .before .before in
     let own = member (loop above) in
-    let st = start (part own) in
+    let a = start (part own) .args in
+    let t = treeOf (a .file .now) in
+    let d = demandOf (a .file .now) in
     record {
       table = next-line _ (above .before .loop-test .taken) (loop above .loop .inv .2 .table);
       served = up above;
-      pays-itself = own .pays-itself .ensures;
-      pays-above = other .pays .ensures;
+      pays-itself = wished-itself t d (a .v) (above .parent-in .result) (wishOf (a .wish)) (own .before .pays-itself .ensures) (own .price-under .ensures);
+      pays-above = wished-above t d (a .v) (above .parent-in .result) (wishOf (a .wish)) (other .before .pays .ensures) (other .price-under2 .ensures);
     }
 
 loop-less : tie.Need-loop-less Inv-loop μ-loop
@@ -107,7 +118,7 @@ loop-less c = omega arith
 loop-again : tie.Need-loop-again Inv-loop μ-loop
 loop-again c =
     let one = c .before .before in
-    let above = one .before .before .before .before in
+    let above = one .before .before .before .before .before in
     let l = loop above .loop in (
       omega (arith, l .inv .0),
       up above .ancestor,
@@ -132,11 +143,13 @@ fill-node-spec =
     record-length-requires
     cachable-in-requires
     pays-itself-requires
+    price-under-requires
     depth-word-requires
     loop-holds
     sub-a
     parent-in-requires
     pays-requires
+    price-under-requires-2
     fill-one-requires
     loop-less
     loop-again

@@ -4,20 +4,21 @@ use Prim.Native.Nat.{_≤_, _<_}
 use native.Mathlib.Nat.{le-refl}
 use native.Mathlib.Omega.{arith}
 use Rattle.model.specs.File.{treeOf, budgetOf}
-use Rattle.best_rows.specs.Guarded.{mayBe}
+use Rattle.best_rows.specs.Guarded.{mayBeUnder}
 use Rattle.places.specs.Places.{startAt}
 use Rattle.table.specs.Table.{LinesFilled}
+use Rattle.table.specs.Wishes.{wishOf}
 use Rattle.table.proofs.Room.{room-sound}
 use Rattle.table.proofs.Fill.{table-begins, next-node, table-whole, filled-none, filled-then}
 use Rattle.table.proofs.fill_table.Statement.{statement}
 use Rattle.table.proofs.fill_table.Tie as tie
 
 abbrev Inv-loop : tie.InvT-loop
-Inv-loop file n s₀ starts widths v₀ s v =
-    (0 < v) × (v ≤ n) × LinesFilled file (mayBe (treeOf file)) starts widths (startAt (treeOf file) (budgetOf file) v) s₀ s
+Inv-loop file n s₀ starts widths wish v₀ s v =
+    (0 < v) × (v ≤ n) × LinesFilled file (mayBeUnder (treeOf file) (wishOf wish)) starts widths (startAt (treeOf file) (budgetOf file) v) s₀ s
 
 abbrev μ-loop : tie.MeasureT-loop
-μ-loop file n s₀ starts widths v₀ s v = v
+μ-loop file n s₀ starts widths wish v₀ s v = v
 
 -- the start, seen from the loop's state
 abbrev start : tie.At-loop Inv-loop μ-loop → tie.Start Inv-loop μ-loop

@@ -1,0 +1,2 @@
+pub mod Site
+pub mod Answers
