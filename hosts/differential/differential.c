@@ -1,6 +1,7 @@
 /* The proved library against the reference in C: random trees of every size in each version, trees of every shape with just the
  * words of scratch that are asked and with one less, damaged files, buffers of wrong lengths, and guard words around all that is
- * lent. Stops at the first difference. Then the stack that the calls take. */
+ * lent; and with a node and without it on full-size trees, whose files are the arguments. Stops at the first difference. Then the
+ * stack that the calls take. */
 #include <inttypes.h>
 #include <stdio.h>
 #include <stdlib.h>
@@ -12,16 +13,17 @@
 #include "stack.h"
 #include "trees.h"
 
-/* In each version: trees of one size and of few nodes, and damaged files of each tree. */
-enum { EACH_SIZE = 2, SMALL = 2000, SMALL_NODES = 9, DAMAGED = 4 };
+/* In each version: trees of one size and of few nodes, and damaged files of each tree. In each full-size tree: nodes asked about
+ * beside those of the plan. */
+enum { EACH_SIZE = 2, SMALL = 2000, SMALL_NODES = 9, DAMAGED = 4, OTHERS = 32 };
 
 _Static_assert(KTERC_SCRATCH_WORDS == SCRATCH_WORDS, "the most words of scratch");
 
 static uint64_t seed = 20000601;
 
-/* Trees of the version at hand and of them those enumerated; trees at the boundary of rule 13, files, sets with a closed node and
- * calls of all versions. */
-static struct { long trees, enumerated, boundary, damaged, closed, calls, refused; } count;
+/* Trees of the version at hand and of them those enumerated; trees at the boundary of rule 13, files, sets with a closed node,
+ * nodes asked about, of them those answered for, those of few nodes and those of full-size plans, and calls, of all versions. */
+static struct { long trees, enumerated, boundary, damaged, closed, asked, answered, every_set, planned, calls, refused; } count;
 
 /* The tree at hand, its file and what the reference says of it; and the same before the file was damaged. */
 static struct {
@@ -32,6 +34,11 @@ static struct {
     struct plan plan;
     struct greedy greedy;
 } at, undamaged;
+
+static uint64_t table[FILL_WORDS];
+
+/* What the reference says of the node last answered for: the least total with it, and without it. */
+static uint64_t least[2];
 
 static void check_that(int holds, const char *what)
 {
@@ -53,7 +60,7 @@ static size_t vary(size_t asked)
     return kind < 9 ? asked : asked + upto(9);
 }
 
-/* The rules on the file, then the call's own two, in this order. */
+/* The rules on the file, then the call's own `rule`, then 14. */
 static uint32_t first_broken(uint32_t rule, int holds, int buffers_long)
 {
     uint32_t answer = at.code ? at.code : !holds ? rule : !buffers_long ? 14 : 0;
@@ -148,15 +155,91 @@ static void try_bill(const uint16_t *set, size_t members)
     check_array(&loads, answer, bill.load, n * 8, "the link loads");
 }
 
+/* ---- with a node and without it */
+
+static size_t planned(size_t b)
+{
+    size_t members = 0;
+    while (members < at.k && at.plan.row[b][members])
+        members++;
+    return members;
+}
+
+/* What differs, at which node and budget. */
+static const char *asked(const char *what, size_t node, size_t b)
+{
+    static char text[120];
+    snprintf(text, sizeof text, "%s with node %zu and without it at budget %zu", what, node, b);
+    return text;
+}
+
+/* The smaller total is the plan's. The plan has the node only if the first is no larger, and has it if the first is smaller. */
+static void check_beside_plan(size_t node, size_t b)
+{
+    int has = 0;
+    for (size_t i = 0; i < planned(b); i++)
+        has |= at.plan.row[b][i] == node;
+    check_that((least[0] < least[1] ? least[0] : least[1]) == at.plan.total[b], asked("the plan's total", node, b));
+    check_that(has ? least[0] <= least[1] : least[0] >= least[1], asked("the plan's row", node, b));
+}
+
+static void try_with_without(size_t node, size_t b, size_t words, size_t t)
+{
+    int good = node >= 1 && node < at.n && b <= at.k;
+    struct lent scratch = lend(words, 8, &seed), totals = lend(t, 8, &seed);
+    uint32_t answer = kterc_with_without(at.file, at.length, node, b, (uint64_t *)scratch.memory, words,
+                                         (uint64_t *)totals.memory, t);
+    check_that(answer == first_broken(good ? 13 : 16, good && words >= at.words, t >= 2), asked("the answer", node, b));
+    if (!answer) planner.with_without(&at.tree, table, node, b, least);
+    check_array(&totals, answer, least, sizeof least, asked("the totals", node, b));
+    check_scratch(&scratch, answer);
+    if (!answer) check_beside_plan(node, b);
+    count.asked++, count.answered += !answer;
+}
+
+/* A number above x that ends in the same 16 or 32 bits. */
+static size_t far_above(size_t x) { return x + ((size_t)1 << (upto(1) ? 16 : 32)); }
+
+static size_t some_budget(void)
+{
+    switch (upto(15)) {
+    case 0: return 0;
+    case 1: return at.k + 1;
+    case 2: return upto(1) ? SIZE_MAX : far_above(upto(at.k));
+    case 3: case 4: case 5: return at.k;
+    default: return upto(at.k);
+    }
+}
+
+/* One of the plan's row b, or any, or none of the tree's. */
+static size_t some_node(size_t b)
+{
+    size_t row = b < at.k ? b : at.k, members = planned(row);
+    uint64_t kind = upto(15);
+    if (kind < 6 && members) return at.plan.row[row][upto(members - 1)];
+    switch (kind) {
+    case 6: return 0;
+    case 7: return at.n;
+    case 8: return upto(1) ? 65535 : SIZE_MAX;
+    case 9: return far_above(upto(at.n - 1));
+    case 10: return upto(1) ? 1 : at.n - 1;
+    default: return upto(at.n - 1);
+    }
+}
+
+static void try_some_node(size_t words)
+{
+    size_t b = some_budget(), node = some_node(b);
+    try_with_without(node, b, words, vary(2));
+}
+
 /* ---- a file */
 
 static void try_sets(void)
 {
     uint16_t set[NODES + 1] = { 0 };
-    size_t members = random_set(set, &at.tree, &seed), planned = 0;
-    while (planned < at.k && at.plan.row[at.k][planned])
-        planned++;
-    try_bill(at.plan.row[at.k], planned);
+    size_t members = random_set(set, &at.tree, &seed);
+    try_bill(at.plan.row[at.k], planned(at.k));
     try_bill(set, members);
     if (add_closed(set, members, &at.tree, &seed)) try_bill(set, ++members), count.closed += !at.code;
     set[upto(members)] = upto(at.n + 1);
@@ -171,6 +254,7 @@ static void try_file(void)
     try_greedy(vary(at.words));
     try_report(vary(at.words));
     try_sets();
+    try_some_node(vary(at.words));
 }
 
 static void read_file(void)
@@ -190,7 +274,6 @@ static void same_plan(const struct plan *other, const char *what)
 /* The reference's three ways to fill the table against each other, the packed one in just the words asked. */
 static void solve(void)
 {
-    static uint64_t table[FILL_WORDS];
     static struct plan other;
     struct lent scratch = lend(at.words, 8, &seed);
     planner.plan(&at.tree, table, RUNS, &at.plan);
@@ -230,11 +313,24 @@ static void enumerate(void)
     count.enumerated++;
 }
 
+/* Each node at each budget: the library against the reference, and the reference against every set. */
+static void enumerate_with_without(void)
+{
+    uint64_t all[2];
+    for (size_t node = 1; node < at.n; node++)
+        for (size_t b = 0; b <= at.k; b++) {
+            if (b < at.n) planner.enumerate_with_without(&at.tree, node, b, all); /* no set has more than n - 1 nodes */
+            try_with_without(node, b, at.words, 2 + upto(2));
+            check_that(!memcmp(all, least, sizeof all), asked("the enumeration", node, b));
+            count.every_set++;
+        }
+}
+
 /* Just the words that rule 13 asks for, one less and one more, for each call. */
 static void try_words(void)
 {
     for (size_t words = at.words - 1; words <= at.words + 1; words++)
-        try_plan(words), try_greedy(words), try_report(words);
+        try_plan(words), try_greedy(words), try_report(words), try_some_node(words);
     count.boundary++;
 }
 
@@ -256,7 +352,7 @@ static void try_version(int version)
 {
     count.trees = count.enumerated = 0;
     for (int i = 0; i < SMALL; i++)
-        try_tree(version, 1 + upto(SMALL_NODES - 1)), enumerate();
+        try_tree(version, 1 + upto(SMALL_NODES - 1)), enumerate(), enumerate_with_without();
     for (int n = 1; n <= NODES; n++)
         for (int i = 0; i < EACH_SIZE; i++)
             try_tree(version, n);
@@ -265,13 +361,46 @@ static void try_version(int version)
            count.trees, NODES, count.enumerated, SMALL_NODES);
 }
 
-int main(void)
+static void load_file(const char *name)
+{
+    FILE *f = fopen(name, "rb");
+    if (!f) {
+        perror(name);
+        exit(2);
+    }
+    at.length = fread(at.file, 1, sizeof at.file, f);
+    fclose(f);
+}
+
+/* Each node of the plan at k, there and at some budget, and others. */
+static void try_full(const char *name)
+{
+    load_file(name);
+    read_file();
+    check_that(!at.code, name);
+    solve();
+    for (size_t i = 0; i < planned(at.k); i++) {
+        try_with_without(at.plan.row[at.k][i], at.k, at.words, 2);
+        try_with_without(at.plan.row[at.k][i], upto(at.k), at.words, 2);
+        count.planned++;
+    }
+    for (int i = 0; i < OTHERS; i++)
+        try_with_without(1 + upto(at.n - 2), upto(at.k), at.words, 2);
+}
+
+int main(int argc, char **argv)
 {
     for (int version = 1; version <= VERSIONS; version++)
         try_version(version);
+    for (int i = 1; i < argc; i++)
+        try_full(argv[i]);
     printf("%ld trees of every shape with just the words of scratch asked, one less and one more\n", count.boundary);
     printf("%ld damaged files\n", count.damaged);
     printf("%ld sets with a closed node, refused by rule 12\n", count.closed);
+    printf("%ld calls with a node and without it, %ld of them accepted, %ld against every set\n", count.asked, count.answered,
+           count.every_set);
+    printf("%d full-size trees: %ld nodes of their plans and %d others, with each and without it\n", argc - 1, count.planned,
+           OTHERS * (argc - 1));
     printf("%ld calls, %ld of them refused, with guards around every buffer\n", count.calls, count.refused);
     printf("none differed\n");
     return !stacks_suffice();

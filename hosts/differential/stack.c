@@ -6,6 +6,7 @@
 #include <ucontext.h>
 
 #include "kterc.h"
+#include "lend.h"
 #include "reference.h"
 #include "trees.h"
 
@@ -30,11 +31,11 @@ static size_t touched_by(void (*call)(void))
     return ROOM - untouched;
 }
 
-/* ---- the calls, on the tree and the set at hand */
+/* ---- the calls, on the tree, the set and the node at hand */
 
 static struct {
     uint8_t file[FILE_BYTES];
-    size_t length, members;
+    size_t length, members, node;
     uint16_t set[NODES];
     struct tree tree;
     uint32_t answer;
@@ -72,6 +73,11 @@ static void report(void)
                              (BUDGET + 1) * BUDGET, memory.greedy_totals, BUDGET + 1, memory.greedy_nodes, BUDGET);
 }
 
+static void with_without(void)
+{
+    at.answer = kterc_with_without(at.file, at.length, at.node, BUDGET, memory.scratch, SCRATCH_WORDS, memory.totals, 2);
+}
+
 static struct { const char *name; void (*call)(void); size_t stated, most; } calls[] = {
     { "check", check, KTERC_CHECK_STACK, 0 },
     { "scratch_words", words, KTERC_SCRATCH_WORDS_STACK, 0 },
@@ -79,6 +85,7 @@ static struct { const char *name; void (*call)(void); size_t stated, most; } cal
     { "plan", plan, KTERC_PLAN_STACK, 0 },
     { "greedy", greedy, KTERC_GREEDY_STACK, 0 },
     { "report", report, KTERC_REPORT_STACK, 0 },
+    { "with_without", with_without, KTERC_WITH_WITHOUT_STACK, 0 },
 };
 
 enum { CALLS = sizeof calls / sizeof *calls };
@@ -107,6 +114,7 @@ int stacks_suffice(void)
         at.length = shaped_tree(at.file, 1 + i / SHAPES % VERSIONS, i % SHAPES, NODES, BUDGET, &seed);
         planner.read(at.file, at.length, &at.tree);
         at.members = random_set(at.set, &at.tree, &seed);
+        at.node = 1 + noise(&seed) % (NODES - 1);
         for (int c = 0; c < CALLS; c++)
             good &= accepted(c);
     }

@@ -303,6 +303,45 @@ static void make_plan(struct tree *t, uint64_t *scratch, enum fill fill, struct 
     }
 }
 
+/* ---- with a node and without it: the table once with a cache at the node, and once with the node closed */
+
+/* The lines of the row that begins with v, where a cache stands at v: with no caches there is no set. */
+static void fill_with(const struct tree *t, uint64_t *table, int v)
+{
+    int k = t->k, next = t->next[v];
+    struct counts c = { .top = min(k, t->size[v]), .later = next ? min(k, t->row[next]) : 0 };
+    const uint64_t *under = line(t, table, t->first[v], t->depth[v], RUNS);
+    uint64_t node[BUDGET + 1] = { NONE };
+    for (int m = 1; m <= c.top; m++)
+        node[m] = own_cost(t, v) + under[m - 1];
+    for (int a = 0; a < t->depth[v]; a++)
+        join_runs(k, c, node, line(t, table, next, a, RUNS), (uint64_t *)line(t, table, v, a, RUNS));
+}
+
+/* The least total of at most b caches, one of them at the node `with`; of any where that is 0. */
+static uint64_t least_total(struct tree *t, uint64_t *table, int with, int b)
+{
+    uint64_t best = NONE;
+    link_rows(t);
+    for (int v = t->n - 1; v > 0; v--)
+        if (v == with) fill_with(t, table, v);
+        else fill_node(t, table, v, RUNS);
+    for (int m = 0; m <= b; m++) {
+        uint64_t exact = entry(t, table, t->first[0], 0, m, RUNS);
+        if (exact < best) best = exact;
+    }
+    return best < NONE ? best : UINT64_MAX;
+}
+
+static void make_with_without(struct tree *t, uint64_t *scratch, int node, int b, uint64_t totals[2])
+{
+    int open = t->open[node];
+    t->open[node] = 0;
+    totals[1] = least_total(t, scratch, 0, b);
+    t->open[node] = open;
+    totals[0] = least_total(t, scratch, node, b);
+}
+
 /* ---- the greedy rule */
 
 static void make_greedy(const struct tree *t, struct greedy *g)
@@ -420,4 +459,18 @@ static void enumerate(const struct tree *t, struct plan *p)
     }
 }
 
-const struct planner PLANNER = { read_tree, scratch_words, make_plan, make_greedy, make_bill, enumerate };
+static void enumerate_with_without(const struct tree *t, int node, int b, uint64_t totals[2])
+{
+    static struct bill bill;
+    uint16_t nodes[NODES];
+    totals[0] = totals[1] = UINT64_MAX;
+    for (unsigned set = 0; set < 1u << t->n; set += 2) {
+        if (__builtin_popcount(set) > b || !all_open(t, set)) continue;
+        make_bill(t, nodes, nodes_of(t, set, nodes), &bill);
+        uint64_t *least = set >> node & 1 ? &totals[0] : &totals[1];
+        if (bill.total < *least) *least = bill.total;
+    }
+}
+
+const struct planner PLANNER = { read_tree, scratch_words, make_plan, make_greedy, make_bill, enumerate, make_with_without,
+                                 enumerate_with_without };

@@ -76,6 +76,11 @@ struct planner {
     void (*bill)(const struct tree *t, const uint16_t *set, size_t members, struct bill *b);
     /* Every set of at most b open nodes, by the ranking word for word; for few nodes. */
     void (*enumerate)(const struct tree *t, struct plan *p);
+    /* The least total of at most b caches at open nodes with the node among them, UINT64_MAX where there is no such set, and the
+     * least without it. In FILL_WORDS words. */
+    void (*with_without)(struct tree *t, uint64_t *scratch, int node, int b, uint64_t totals[2]);
+    /* The same over every set, by the bill; for few nodes. */
+    void (*enumerate_with_without)(const struct tree *t, int node, int b, uint64_t totals[2]);
 };
 
 extern const struct planner planner, planner_o2, planner_o3;

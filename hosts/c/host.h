@@ -1,0 +1,19 @@
+/* What the parts of the host program share. */
+#ifndef HOST_H
+#define HOST_H
+
+#include <stddef.h>
+#include <stdint.h>
+
+/* The nodes and the budget of an accepted file. */
+static inline size_t nodes_of(const uint8_t *file) { return file[5] * 256u + file[6]; }
+static inline size_t budget_of(const uint8_t *file) { return file[7] * 256u + file[8]; }
+
+/* Memory for a call, never NULL, also where nothing is asked. The program ends where there is none. */
+void *lent(size_t entries, size_t size);
+
+/* Each prints its lines and returns 0, or prints nothing and returns the library's refusal. */
+uint32_t print_report(const uint8_t *file, size_t length);
+uint32_t print_sites(const uint8_t *file, size_t length, size_t budget);
+
+#endif
