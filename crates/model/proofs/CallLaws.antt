@@ -2,7 +2,7 @@
 use mathlib.Core.Path.{_≡_, refl, sym, ap, _∙_}
 use mathlib.Core.Bool.{Bool, true, false, cond, _&&_}
 use mathlib.Core.List.{List}
-use mathlib.Core.Logic.{_↔_, _⊎_, inl, inr}
+use mathlib.Core.Logic.{_↔_, inl, inr}
 use Prim.Native.Nat.{ℕ, _-_, _+_, _≤_, _<_}
 use native.Mathlib.Decide.{decLt}
 use native.Mathlib.Omega.{arith}
@@ -22,7 +22,7 @@ use Rattle.model.specs.WithOrWithout.{Least, none, leastIs, withIt, with
 use Rattle.model.specs.Report.{HoldsOptimum}
 use Rattle.model.specs.Hosts.{codeUnit, codeOf, HostBillMemory, hostBillVerdict, noTotal, totalOrNone, HostWithOrWithoutMemory, HostWithOrWithoutCall}
 use Rattle.model.specs.Laws.{RanksFirst}
-use Rattle.model.specs.CallLaws.{RankingSaid, CodeSaid, StaysFrom, CallsLawful}
+use Rattle.model.specs.CallLaws.{RankingSaid, CodeSaid, StaysFrom, LeastTold, CallsLawful}
 use Rattle.model.proofs.Verdicts.{ask-passed, then-passed, answered-passed, refused-broken}
 use Rattle.model.proofs.Accepted.{accepted-sound}
 use Rattle.model.proofs.Bounds.{total-bound}
@@ -166,21 +166,18 @@ module _ (file : List ℕ) (v b : ℕ) where
       let second : y ≡ withoutIt (treeOf file) (demandOf file) b v = ap (λ p. p .1) is in
       (rw first (with-least (treeOf file) (demandOf file) b v), rw second (without-least (treeOf file) (demandOf file) b v))
 
-  told : (P : List ℕ → Type 0) (m : Least) → LeastAmong (treeOf file) (demandOf file) P m
-      → LeastAmong (treeOf file) (demandOf file) P (leastIs (totalOrNone m)) ⊎ (LeastAmong (treeOf file) (demandOf file) P none × (totalOrNone m ≡ 18_446_744_073_709_551_615))
-  told P none h = inr (h, refl)
-  told P (leastIs x) h = inl h
+  first-told : (m : Least) → LeastWhere (treeOf file) (demandOf file) b v true m → LeastTold (treeOf file) (demandOf file) b v true (totalOrNone m)
+  first-told none h = inr (h, refl)
+  first-told (leastIs x) h = inl h
 
   host-minima : (memory memory′ : HostWithOrWithoutMemory) → HostWithOrWithoutCall file v b memory passed memory′
-      → let t = treeOf file in let d = demandOf file in
-      let first = getD (memory′ .totals) 0 0 in
-      (LeastWhere t d b v true (leastIs first) ⊎ (LeastWhere t d b v true none × (first ≡ 18_446_744_073_709_551_615)))
-      × LeastWhere t d b v false (leastIs (getD (memory′ .totals) 1 0))
+      → LeastTold (treeOf file) (demandOf file) b v true (getD (memory′ .totals) 0 0)
+      × LeastWhere (treeOf file) (demandOf file) b v false (leastIs (getD (memory′ .totals) 1 0))
   host-minima memory memory′ c =
       let t = treeOf file in
       let d = demandOf file in
       let y = without-some t d b v in
-      rw (c .totalsAfter, y .1) (told (SetWhere t b v true) (withIt t d b v) (with-least t d b v), rw (y .1) at (without-least t d b v))
+      rw (c .totalsAfter, y .1) (first-told (withIt t d b v) (with-least t d b v), rw (y .1) at (without-least t d b v))
 
 -- a least total is a set's, and none of those is the number that tells none
 none-told : (t : Tree) (d : Demand) (P : List ℕ → Type 0) → ((k : List ℕ) → total t d k < totalLimit)

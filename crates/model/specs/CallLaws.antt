@@ -3,12 +3,12 @@
 -- choice, and printed numbers.
 -- Numbers are written out here, so that a wrong constant breaks a law.
 use mathlib.Core.Path.{_≡_}
-use mathlib.Core.Bool.{true, false}
+use mathlib.Core.Bool.{Bool, true, false}
 use mathlib.Core.List.{List, [], _∷_}
 use mathlib.Core.Logic.{_↔_, _⊎_}
 use Prim.Native.Nat.{ℕ, _+_, _*_, _-_, _/_, _%_, _≤_, _<_}
 use lib.ListN.{length, getD}
-use Rattle.model.specs.File.{treeOf, demandOf, countOf, budgetOf}
+use Rattle.model.specs.File.{Tree, Demand, treeOf, demandOf, countOf, budgetOf}
 use Rattle.model.specs.Tree.{height}
 use Rattle.model.specs.Rules.{Verdict, passed, broken, fileVerdict, isSet, askNode, scratchWords, longEnough}
 use Rattle.model.specs.Bill.{linkTotal}
@@ -43,6 +43,11 @@ pub record CodeSaid (v : Verdict) : Type 0 where
 -- the entries from index `words` on and the length stay
 abbrev pub StaysFrom : ℕ → List ℕ → List ℕ → Type 0
 StaysFrom words old new = (length new ≡ length old) × ((i : ℕ) → words ≤ i → getD new i 0 ≡ getD old i 0)
+
+-- x is a least total of the sets that contain v (u is true), or of those that don't, as a host reads it: the largest number of 64
+-- bits where there is no such set
+abbrev pub LeastTold : Tree → Demand → ℕ → ℕ → Bool → ℕ → Type 0
+LeastTold t d b v u x = LeastWhere t d b v u (leastIs x) ⊎ (LeastWhere t d b v u none × (x ≡ 18_446_744_073_709_551_615))
 
 -- the number that a text of digits stands for, after a number x already read
 unfoldable pub readAfter : ℕ → List ℕ → ℕ
@@ -84,12 +89,10 @@ pub record CallsLawful (file : List ℕ) : Type 0 where
   -- "the tool's two totals are shown to be those minima": whatever the call answers
   pub bothMinima : (v b : ℕ) (x y : Least) (scratch scratch′ : List ℕ) → WithOrWithoutCall file v b scratch (answered (x, y)) scratch′
       → LeastWhere (treeOf file) (demandOf file) b v true x × LeastWhere (treeOf file) (demandOf file) b v false y
-  -- and what a host finds in its first two entries: the first is the largest number of 64 bits where no set contains the node
+  -- and what a host finds in its first two entries; the second is always a total
   pub hostMinima : (v b : ℕ) (memory memory′ : HostWithOrWithoutMemory) → HostWithOrWithoutCall file v b memory passed memory′
-      → let t = treeOf file in let d = demandOf file in
-      let first = getD (memory′ .totals) 0 0 in
-      (LeastWhere t d b v true (leastIs first) ⊎ (LeastWhere t d b v true none × (first ≡ 18_446_744_073_709_551_615)))
-      × LeastWhere t d b v false (leastIs (getD (memory′ .totals) 1 0))
+      → LeastTold (treeOf file) (demandOf file) b v true (getD (memory′ .totals) 0 0)
+      × LeastWhere (treeOf file) (demandOf file) b v false (leastIs (getD (memory′ .totals) 1 0))
   -- 13: never more words than 01 asked for, n × (h + 1) × (k + 1) + 4 × n; and at most 1,023 × 32 × 33 + 4 × 1,024
   pub wordsFewer : scratchWords file ≤ countOf file * (height (treeOf file) + 1) * (budgetOf file + 1) + 4 * countOf file
   pub wordsMost : fileVerdict file ≡ passed → scratchWords file ≤ 1_084_384
