@@ -16,15 +16,16 @@
  * takes scratch asks for as many (rule 13). What they hold before a call does not matter. After an accepted call these words may
  * hold anything; the words beyond them stay.
  *
- * Answers. Node numbers in arrays are of 16 bits, totals and loads of 64 bits in thousandths. Arrays may be longer than asked
- * (rule 14): entries beyond those written stay.
+ * Answers. Node numbers and budgets in arrays are of 16 bits, totals and loads of 64 bits in thousandths; a target too is in
+ * thousandths. Arrays may be longer than asked (rule 14): entries beyond those written stay.
  *
  * Stack. A call needs KTERC_.._STACK bytes of its thread's stack, whatever the file. They are measured, on x86-64 and with a
  * margin of a third or more, and not proved.
  *
- * Result. 0: accepted, the answers are written. Else the call is refused: KTERC_RULE gives the number of the first broken rule,
- * KTERC_RECORD the record it broke on (0 where no record is at fault), and nothing is changed, neither answers nor scratch. The
- * rules about the file come first, then 12 about a set or 16 about a node and a budget, then 13, then 14.
+ * Result. 0: accepted, the answers are written. KTERC_NONE, from kterc_target alone: accepted, no budget is enough, and no answer
+ * is written. Else the call is refused: KTERC_RULE gives the number of the first broken rule, KTERC_RECORD the record it broke on
+ * (0 where no record is at fault), and nothing is changed, neither answers nor scratch. The rules about the file come first, then
+ * 12 about a set or 16 about a node and a budget, then 13, then 14.
  */
 #ifndef KTERC_H
 #define KTERC_H
@@ -52,9 +53,13 @@ extern "C" {
 #define KTERC_GREEDY_STACK (28 * 1024)
 #define KTERC_REPORT_STACK (40 * 1024)
 #define KTERC_WITH_WITHOUT_STACK (40 * 1024)
+#define KTERC_TARGET_STACK (40 * 1024)
 
 /* Stands in the place of a total where there is none. Every total is below 2^62. */
 #define KTERC_NO_TOTAL UINT64_MAX
+
+/* The result of kterc_target where no budget is enough. It is no rule's number, and its record is 0. */
+#define KTERC_NONE 255
 
 #define KTERC_RULE(answer) ((answer) % 256)
 #define KTERC_RECORD(answer) ((answer) / 256)
@@ -94,6 +99,13 @@ uint32_t kterc_report(const uint8_t *file, size_t file_length, uint64_t *scratch
  * first is no larger than the second, and has it if the first is smaller. */
 uint32_t kterc_with_without(const uint8_t *file, size_t file_length, size_t node, size_t budget, uint64_t *scratch,
                             size_t scratch_length, uint64_t *totals, size_t totals_length);
+
+/* From a target to a budget. Asked of the arrays: 1 entry of budget, k of row. Writes the least budget, at most k, whose plan
+ * total is no larger than the target, and the plan's row at that budget, which has exactly as many nodes as the budget says,
+ * ascending, then zeros. Where every set of at most k open nodes costs more than the target the result is KTERC_NONE, and neither
+ * array is written. Whether a budget is enough is asked last: an array too short is refused in both cases. */
+uint32_t kterc_target(const uint8_t *file, size_t file_length, uint64_t target, uint64_t *scratch, size_t scratch_length,
+                      uint16_t *budget, size_t budget_length, uint16_t *row, size_t row_length);
 
 #ifdef __cplusplus
 }

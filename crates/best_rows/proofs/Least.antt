@@ -43,6 +43,14 @@ module _ (f : ℕ → ℕ) where
             better-cases (λ i. NoLaterBy f i j) f _ _ (λ h. omega arith) (λ h. omega arith)
       ]
 
+  -- an index whose value is smaller than each one before it
+  pub first-least-self : (n : ℕ) → ((j : ℕ) → j < n → f n < f j) → firstLeast f n ≡ n
+  unfolding firstLeast
+  first-least-self zero smaller = refl
+  first-least-self (suc n) smaller =
+      let less = smaller (firstLeast f n) (omega (arith, first-least-within n)) in
+      better-cases (λ i. i ≡ suc n) f (firstLeast f n) (suc n) (λ h. refl) (λ h. absurd (omega arith))
+
   -- a loop's running minimum is the least value of f, or top
   pub running-min-is : (top n : ℕ) → runningMin top f (suc n) ≡ min top (f (firstLeast f n))
   unfolding runningMin firstLeast

@@ -18,7 +18,8 @@ use Rattle.model.specs.Rules.{passed, fileVerdict, isSet}
 use Rattle.model.specs.Bill.{total}
 use Rattle.model.specs.Ties.{ranksBefore}
 use Rattle.model.specs.Plan.{plan, planTotal}
-use Rattle.model.specs.WithOrWithout.{leastIs, SetWhere, LeastWhere}
+use Rattle.model.specs.Calls.{leastIs}
+use Rattle.model.specs.WithOrWithout.{SetWhere, LeastWhere}
 use Rattle.model.specs.Accepted.{Sound}
 use Rattle.model.proofs.Accepted.{accepted-sound}
 use Rattle.model.proofs.Ascending.{ascends-bounds, set-said, empty-is-set}

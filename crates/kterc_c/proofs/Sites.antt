@@ -6,32 +6,13 @@ use lib.ListN.{length, drop, set}
 use borrow.Author.Tests.{le-leb, lt-leb}
 use Rattle.laws.proofs.Stores.{sets-front}
 use Rattle.model.specs.Rules.{Verdict, passed, broken, _then_, longEnough, askBuffers}
-use Rattle.model.specs.Calls.{answered, refused, answer}
-use Rattle.model.specs.WithOrWithout.{Least, withOrWithoutVerdict, WithOrWithoutCall}
+use Rattle.model.specs.Calls.{answered, refused, Least}
+use Rattle.model.specs.WithOrWithout.{withOrWithoutVerdict, WithOrWithoutCall}
 use Rattle.model.specs.Hosts.{totalOrNone, HostWithOrWithoutMemory, hostWithOrWithoutVerdict, HostWithOrWithoutCall}
 use Rattle.model.proofs.Verdicts.{then-none, answered-passed, refused-broken}
-use Rattle.fields.specs.declared.Tree as code
-use Rattle.tree_file.specs.Checks.{sizesOf}
 use Rattle.one_site.specs.Site.{siteVerdict}
 use Rattle.one_site.proofs.Asked.{verdict-is}
-
--- ---- the rules about the file, 16 and 13, then 14, which is broken
-
-module _ (file : List ℕ) (v b words : ℕ) where
-  pub site-then-short : {sizes : code.Tree} → answered sizes ≡ answer (siteVerdict file v b words) (sizesOf file)
-      → broken 14 0 ≡ (siteVerdict file v b words then broken 14 0)
-  site-then-short e = rw (answered-passed (siteVerdict file v b words) (sizesOf file) e .0)
-
-  pub site-not-asked : {q i : ℕ} → refused q i ≡ answer (siteVerdict file v b words) (sizesOf file)
-      → broken q i ≡ (siteVerdict file v b words then broken 14 0)
-  site-not-asked e = rw (refused-broken (siteVerdict file v b words) (sizesOf file) e)
-
--- a verdict that ends in a refusal is one
-ends-refused : (a : Verdict) (q i : ℕ) → (p : ℕ) × (j : ℕ) × ((a then broken q i) ≡ broken p j)
-ends-refused passed q i = (q, i, refl)
-ends-refused (broken p j) q i = (p, j, refl)
-
--- ---- the call
+use Rattle.kterc_c.proofs.Room.{ends-refused}
 
 module _ (file : List ℕ) (v b : ℕ) (memory : HostWithOrWithoutMemory) where
   -- the questions before 14 are those of the call without a buffer

@@ -1,21 +1,26 @@
 // The calls for hosts in C, as include/kterc.h declares them: each slice is a pointer and a length.
 ghost use mathlib.Core.Path.{_≡_};
-ghost use Rattle.model.specs.Rules.{broken, _then_, fileVerdict, askSet};
-ghost use Rattle.model.specs.Calls.{checkNumber, PlanMemory, planVerdict, PlanCall, GreedyMemory, greedyVerdict, GreedyCall};
+ghost use Rattle.model.specs.Rules.{Verdict, broken, _then_, fileVerdict, askSet};
+ghost use Rattle.model.specs.Calls.{answer, checkNumber, PlanMemory, planVerdict, PlanCall, GreedyMemory, greedyVerdict, GreedyCall};
 ghost use Rattle.model.specs.Report.{ReportMemory, reportVerdict, ReportCall};
-ghost use Rattle.model.specs.Hosts.{codeOf, wordsAsked, HostBillMemory, hostBillVerdict, HostBillCall, HostWithOrWithoutMemory, hostWithOrWithoutVerdict, HostWithOrWithoutCall};
-ghost use Rattle.tree_file.specs.Checks.{verdictOf};
-ghost use Rattle.one_site.specs.Site.{siteVerdict};
+ghost use Rattle.model.specs.Hosts.{codeOf, wordsAsked, HostBillMemory, hostBillVerdict, HostBillCall, HostWithOrWithoutMemory, hostWithOrWithoutVerdict, HostWithOrWithoutCall, HostLeastBudgetCall};
+ghost use Rattle.fields.specs.declared.Tree as code;
+ghost use Rattle.tree_file.specs.Checks.{verdictOf, answerOf};
+use least_budget::LeastBudget;
 use one_site::WithOrWithout;
 use placement::Billed;
 use tree_file::Checked;
 use tree_file::Ruling;
+use units::Total;
 
 // The rule's number is one byte of an answer, and the record stands above it.
 const CODE_UNIT: u32 = 256;
 
 // Stands for "none" among totals: the largest number of 64 bits, which no total reaches.
 const NO_TOTAL: u64 = 18_446_744_073_709_551_615;
+
+// The answer "none" of a call: a number that no rule has.
+const NONE: u32 = 255;
 
 // A ruling as one number: record × 256 + number, 0 where no rule is broken.
 fn code_of(ruling: Ruling) -> u32
@@ -141,11 +146,10 @@ pub extern "C" fn kterc_report(
     code_of(report::report(file, scratch, totals, rows, greedy_totals, greedy_nodes))
 }
 
-// The answer with no room for both totals: the rules about the file, 16 and 13, then rule 14, which is broken.
-fn no_room_for_both(file: &[u8], node: usize, budget: usize, words: usize) -> Ruling
-    ensures { λ r. ⌜ verdictOf r ≡ (siteVerdict (now (file .entry)) node budget words then broken 14 0) ⌝ }
+// The answer with no room for what is written, after the rules that were checked: rule 14, which is broken.
+fn no_room_after(checked: Checked) -> Ruling
+    ensures { λ r. ⌜ ((v : Verdict) (sizes : code.Tree) → answerOf checked ≡ answer v sizes → verdictOf r ≡ (v then broken 14 0)) ⌝ }
 {
-    let checked = one_site::check(file, node, budget, words);
     match checked {
         Checked::Accepted(_) => Ruling::Broken(14, 0),
         Checked::Refused(q, record) => Ruling::Broken(q, record),
@@ -163,7 +167,7 @@ fn with_without(
     ensures { λ r. ⌜ HostWithOrWithoutCall (now (file .entry)) node budget record { scratch = now (scratch .entry); totals = now (totals .entry) } (verdictOf r) record { scratch = now (scratch .exit); totals = now (totals .exit) } ⌝ }
 {
     if totals.len() < 2 {
-        return no_room_for_both(file, node, budget, scratch.len());
+        return no_room_after(one_site::check(file, node, budget, scratch.len()));
     }
     let found = one_site::with_or_without(file, node, budget, scratch);
     match found {
@@ -195,4 +199,30 @@ pub extern "C" fn kterc_with_without(
     ensures { λ _. ⌜ (let lent : HostWithOrWithoutMemory = record { scratch = now (scratch .entry); totals = now (totals .entry) } in HostWithOrWithoutCall (now (file .entry)) node budget lent (hostWithOrWithoutVerdict (now (file .entry)) node budget lent) record { scratch = now (scratch .exit); totals = now (totals .exit) }) ⌝ }
 {
     code_of(with_without(file, node, budget, scratch, totals))
+}
+
+// The least budget, at most k, whose plan total is no larger than the target, in the first entry of `budget`, and its set as one row of
+// the plan in `row`; or NONE, which writes nothing.
+#[no_mangle]
+pub extern "C" fn kterc_target(
+    file: &[u8],
+    target: u64,
+    scratch: &mut [u64],
+    budget: &mut [u16],
+    row: &mut [u16],
+) -> u32
+    ensures { λ r. ⌜ HostLeastBudgetCall (now (file .entry)) target record { scratch = now (scratch .entry); budget = now (budget .entry); row = now (row .entry) } r record { scratch = now (scratch .exit); budget = now (budget .exit); row = now (row .exit) } ⌝ }
+{
+    if budget.len() < 1 {
+        return code_of(no_room_after(lent::check(file, scratch.len())));
+    }
+    let found = least_budget::from_target(file, Total(target), scratch, row);
+    match found {
+        LeastBudget::Budget(b) => {
+            budget[0] = b;
+            0
+        }
+        LeastBudget::None => NONE,
+        LeastBudget::Refused(q, record) => code_of(Ruling::Broken(q, record)),
+    }
 }

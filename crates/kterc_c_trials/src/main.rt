@@ -3,11 +3,11 @@
 //
 // A case is `NAME CALL FILE`, and then the arrays that are lent, each by how many entries it has, a set by its members:
 // `check` and `words` take none, `bill` takes SET TOTAL SERVING LOADS, `plan` SCRATCH BEYOND TOTALS ROWS, `greedy` SCRATCH
-// BEYOND TOTALS GREEDY_NODES, `report` SCRATCH BEYOND TOTALS ROWS GREEDY_TOTALS GREEDY_NODES, and `with_without`, after the numbers
-// NODE BUDGET, SCRATCH BEYOND TOTALS.
+// BEYOND TOTALS GREEDY_NODES, `report` SCRATCH BEYOND TOTALS ROWS GREEDY_TOTALS GREEDY_NODES, `with_without`, after the numbers
+// NODE BUDGET, SCRATCH BEYOND TOTALS, and `target`, after the number TARGET, SCRATCH BEYOND BUDGET ROW.
 // Its answer is `NAME NUMBER`, the number that the call answers, then each array by its name, whole, and `kept` if the words of
 // the scratch from BEYOND on are as they were. Before the call each word of the scratch is 5432123, each entry of TOTAL and
-// TOTALS 987654321, of SERVING and ROWS 4321, of LOADS and GREEDY_TOTALS 123456789, and of GREEDY_NODES 1234.
+// TOTALS 987654321, of SERVING, ROWS and ROW 4321, of LOADS and GREEDY_TOTALS 123456789, and of GREEDY_NODES and BUDGET 1234.
 use libc::STDIN_FILENO;
 use libc::STDOUT_FILENO;
 
@@ -93,6 +93,20 @@ fn answer_with_without(
 ) {
     print_code(kterc_c::kterc_with_without(file, node, budget, scratch, totals));
     show_totals(b" totals", totals);
+    trial_text::print_kept(scratch, beyond, 5432123);
+}
+
+fn answer_target(
+    file: &[u8],
+    target: u64,
+    beyond: usize,
+    scratch: &mut [u64],
+    budget: &mut [u16],
+    row: &mut [u16],
+) {
+    print_code(kterc_c::kterc_target(file, target, scratch, budget, row));
+    show_nodes(b" budget", budget);
+    show_nodes(b" row", row);
     trial_text::print_kept(scratch, beyond, 5432123);
 }
 
@@ -189,6 +203,24 @@ fn with_without_case(file: &[u8], line: &[u8]) {
     );
 }
 
+fn target_case(file: &[u8], line: &[u8]) {
+    let mut scratch = [5432123u64; 9000];
+    let mut budget = [1234u16; 40];
+    let mut row = [4321u16; 40];
+    let a = trial_text::entries(line, 4, 9000);
+    let beyond = trial_text::entries(line, 5, 9000);
+    let b = trial_text::entries(line, 6, 40);
+    let c = trial_text::entries(line, 7, 40);
+    answer_target(
+        file,
+        trial_text::number_of(line, 3) as u64,
+        beyond,
+        &mut scratch[0..a],
+        &mut budget[0..b],
+        &mut row[0..c],
+    );
+}
+
 fn answer_case(file: &[u8], line: &[u8]) {
     let call = trial_text::word(line, 1);
     if check::same(call, b"check") {
@@ -211,6 +243,9 @@ fn answer_case(file: &[u8], line: &[u8]) {
     }
     if check::same(call, b"with_without") {
         with_without_case(file, line);
+    }
+    if check::same(call, b"target") {
+        target_case(file, line);
     }
 }
 

@@ -14,7 +14,7 @@ use Rattle.model.proofs.Verdicts.{ask-passed, then-passed, then-grouped, answer
 use Rattle.fields.specs.declared.Tree as code
 use Rattle.tree_file.specs.Checks.{sizesOf, AcceptedSizes, SizesHold}
 use Rattle.tree_file.proofs.Accepted.{sizes-hold}
-use Rattle.lent.specs.Lent.{lentVerdict}
+use Rattle.lent.specs.Lent.{lentVerdict, LentRoom}
 
 -- ---- rule 13
 
@@ -58,26 +58,32 @@ module _ (file : List ℕ) where
       let ok = lent-accepted words (told .0) in
       (ok .0, ok .1, told .1)
 
+  lent-accepted-sizes : (words : ℕ) {sizes : code.Tree} → answered sizes ≡ answer (lentVerdict file words) (sizesOf file) → AcceptedSizes file sizes
+  lent-accepted-sizes words e = let told = lent-told e in record { accepted = told .0; of-file = told .2 }
+
   pub lent-sizes : (words : ℕ) {sizes : code.Tree} → answered sizes ≡ answer (lentVerdict file words) (sizesOf file) → SizesHold sizes
-  lent-sizes words e = let told = lent-told e in sizes-hold (record { accepted = told .0; of-file = told .2 })
+  lent-sizes words e = sizes-hold (lent-accepted-sizes words e)
+
+  pub lent-room : (s : List ℕ) {sizes : code.Tree} → answered sizes ≡ answer (lentVerdict file (length s)) (sizesOf file) → LentRoom file sizes s
+  lent-room s e = record { of-file = lent-accepted-sizes (length s) e; room = lent-told e .1 }
 
 -- ---- rule 14
 
 -- the verdict of a call with lent scratch and buffers: a refusal before rule 14 stands, and else rule 14 decides
 module _ (file scratch : List ℕ) (long : Bool) where
-  grouped : (fileVerdict file then askScratch file scratch then askBuffers long) ≡ (lentVerdict file (length scratch) then askBuffers long)
+  pub rules-grouped : (fileVerdict file then askScratch file scratch then askBuffers long) ≡ (lentVerdict file (length scratch) then askBuffers long)
   unfolding lentVerdict
-  grouped = sym (then-grouped (fileVerdict file) (askScratch file scratch) (askBuffers long))
+  rules-grouped = sym (then-grouped (fileVerdict file) (askScratch file scratch) (askBuffers long))
 
   pub refused-before-buffers : {q i : ℕ} → refused q i ≡ answer (lentVerdict file (length scratch)) (sizesOf file)
       → broken q i ≡ (fileVerdict file then askScratch file scratch then askBuffers long)
   refused-before-buffers e =
-      sym (grouped ∙ ap (λ v. v then askBuffers long) (refused-broken (lentVerdict file (length scratch)) (sizesOf file) e))
+      sym (rules-grouped ∙ ap (λ v. v then askBuffers long) (refused-broken (lentVerdict file (length scratch)) (sizesOf file) e))
 
   pub buffers-decide : {sizes : code.Tree} {b : Bool} → answered sizes ≡ answer (lentVerdict file (length scratch)) (sizesOf file) → long ≡ b
       → askBuffers b ≡ (fileVerdict file then askScratch file scratch then askBuffers long)
   buffers-decide e h =
-      sym (grouped ∙ ap₂ (λ v x. v then askBuffers x) (answered-passed (lentVerdict file (length scratch)) (sizesOf file) e .0) h)
+      sym (rules-grouped ∙ ap₂ (λ v x. v then askBuffers x) (answered-passed (lentVerdict file (length scratch)) (sizesOf file) e .0) h)
 
 -- k + 1 totals, as they are asked before the rest of a call's buffers
 module _ (k totals : ℕ) (rest : Bool) where

@@ -17,10 +17,11 @@ use Rattle.model.specs.Bill.{totalLimit, total, linkTotal}
 use Rattle.model.specs.Ties.{ranksBefore}
 use Rattle.model.specs.Plan.{plan, planTotal}
 use Rattle.model.specs.Greedy.{greedyTotal}
-use Rattle.model.specs.Calls.{answered, refused, ScratchAfter, Winner, named, first, second, BillMemory, billVerdict, rankVerdict, ranking, planBuffersLong, greedyBuffersLong}
-use Rattle.model.specs.WithOrWithout.{Least, none, leastIs, withIt, withOrWithoutVerdict, withoutIt, bothLeast, WithOrWithoutCall, SetWhere, LeastAmong, LeastWhere}
+use Rattle.model.specs.Calls.{answered, refused, Least, none, leastIs, ScratchAfter, Winner, named, first, second, BillMemory, billVerdict, rankVerdict, ranking, planBuffersLong, greedyBuffersLong}
+use Rattle.model.specs.WithOrWithout.{withIt, withOrWithoutVerdict, withoutIt, bothLeast, WithOrWithoutCall, SetWhere, LeastAmong, LeastWhere}
+use Rattle.model.specs.LeastBudget.{leastBudget, leastBudgetVerdict}
 use Rattle.model.specs.Report.{HoldsOptimum}
-use Rattle.model.specs.Hosts.{codeUnit, codeOf, HostBillMemory, hostBillVerdict, noTotal, totalOrNone, HostWithOrWithoutMemory, HostWithOrWithoutCall}
+use Rattle.model.specs.Hosts.{codeOf, HostBillMemory, hostBillVerdict, noTotal, totalOrNone, HostWithOrWithoutMemory, HostWithOrWithoutCall}
 use Rattle.model.specs.Laws.{RanksFirst}
 use Rattle.model.specs.CallLaws.{RankingSaid, CodeSaid, StaysFrom, LeastTold, CallsLawful}
 use Rattle.model.proofs.Verdicts.{ask-passed, then-passed, answered-passed, refused-broken}
@@ -30,9 +31,11 @@ use Rattle.model.proofs.Words.{words-fewer, words-most}
 use Rattle.model.proofs.Order.{smaller-said}
 use Rattle.model.proofs.Plans.{only-plan}
 use Rattle.model.proofs.WithOrWithout.{with-least, without-least, without-some}
-use Rattle.model.proofs.Codes.{Numbered, code-reads, code-none, bill-numbered, plan-numbered, greedy-numbered, report-numbered, with-or-without-numbered}
+use Rattle.model.proofs.Codes.{Numbered, numbered-within, code-reads, code-none, bill-numbered, plan-numbered, greedy-numbered, report-numbered, with-or-without-numbered}
+use Rattle.model.proofs.Asked.{plan-asked, greedy-asked, report-asked, least-budget-asked, host-least-budget-asked}
+use Rattle.model.proofs.Targets.{least-budget-answers, least-budget-found, least-budget-none-found, least-budget-keeps, target-told}
 use Rattle.model.proofs.Decimals.{decimal-reads}
-use Rattle.model.proofs.Written.{length-serving-nodes, length-link-loads, length-plan-totals, length-plan-rows, length-greedy-totals, length-greedy-row}
+use Rattle.model.proofs.Written.{length-serving-nodes, length-link-loads, length-plan-totals, length-plan-row, length-plan-rows, length-greedy-totals, length-greedy-row}
 
 -- ---- rule 12, right after the rules about the file
 
@@ -105,7 +108,7 @@ code-said : (v : Verdict) → Numbered v → CodeSaid v
 code-said v h =
     record {
       passes = (code-none v h, λ e. ap codeOf e);
-      refuses = λ q i e. rw e (code-reads q i (ltb-true q codeUnit (both (ltb 0 q) (ltb q codeUnit) (h .byte q i e) .1)));
+      refuses = λ q i e. rw e (code-reads q i (omega (arith, numbered-within (rw e at h) .1)));
     }
 
 -- ---- the buffers
@@ -218,6 +221,9 @@ calls-lawful file =
       hostBilledIsSet = host-billed-is-set file;
       rankedAreSets = ranked-are-sets file;
       nodeAsked = node-asked file;
+      planAsked = plan-asked file;
+      greedyAsked = greedy-asked file;
+      reportAsked = report-asked file;
       billCode = λ set memory. code-said _ (bill-numbered file set memory);
       planCode = λ memory. code-said _ (plan-numbered file memory);
       greedyCode = λ memory. code-said _ (greedy-numbered file memory);
@@ -228,6 +234,7 @@ calls-lawful file =
       greedyFits = λ totals nodes. both-fit totals nodes (length-greedy-totals file) (length-greedy-row file);
       demandMet = λ memory memory′ c. c .demandThree refl;
       reportFits = λ memory. (both (planBuffersLong file (memory .planTotals) (memory .planRows)) (greedyBuffersLong file (memory .greedyTotals) (memory .greedyNodes)), λ h. rw (h .0, h .1));
+      leastBudgetFits = λ b h row. (λ long. omega (arith, length-plan-row file b h, long-said (budgetOf file) row .0 long), λ fits. long-said (budgetOf file) row .1 (omega (arith, length-plan-row file b h)));
       withOrWithoutFits = λ v b. long-said 2;
       noneTold = λ passes v b. (
         none-told (treeOf file) (demandOf file) (SetWhere (treeOf file) b v true)
@@ -238,6 +245,13 @@ calls-lawful file =
       withOrWithoutPasses = with-or-without-passes file;
       bothMinima = both-minima file;
       hostMinima = host-minima file;
+      leastBudgetAsked = least-budget-asked file;
+      hostLeastBudgetAsked = host-least-budget-asked file;
+      leastBudgetAnswers = λ target a memory memory′. least-budget-answers file target memory memory′ a;
+      leastBudgetFound = λ target b memory memory′. least-budget-found file target memory memory′ b;
+      leastBudgetNone = least-budget-none-found file;
+      leastBudgetKeeps = λ target q i memory memory′. least-budget-keeps file target memory memory′ q i;
+      targetTold = target-told file;
       wordsFewer = words-fewer file;
       wordsMost = words-most file;
       planFrees = λ memory memory′ c. stays-from (scratchWords file) (memory .scratch) (memory′ .scratch) (c .scratchAfter);
@@ -246,6 +260,10 @@ calls-lawful file =
       withOrWithoutFrees = with-or-without-frees file;
       hostWithOrWithoutFrees = λ v b memory memory′ c. stays-from (scratchWords file) (memory .scratch) (memory′ .scratch) (c .scratchAfter);
       withOrWithoutKeeps = with-or-without-keeps file;
+      leastBudgetFrees = λ target m memory memory′ c.
+          stays-from (scratchWords file) (memory .scratch) (memory′ .scratch)
+          (rw (answered-passed (leastBudgetVerdict file memory) (leastBudget file target) (c .answers) .0) at (c .scratchAfter));
+      hostLeastBudgetFrees = λ target code memory memory′ c e. stays-from (scratchWords file) (memory .scratch) (memory′ .scratch) (rw e at (c .scratchAfter));
       scratchKept = λ words q i old new h. h;
       demandSettles = λ memory h b l. only-optimum (treeOf file) (demandOf file) b _ _ _ (h b l);
       decimalsRead = decimal-reads;

@@ -12,34 +12,37 @@ use Rattle.model.specs.Rules.{Verdict, passed, broken, ask, _then_, askS
 use Rattle.model.specs.Calls.{PlanMemory, planVerdict, GreedyMemory, greedyVerdict}
 use Rattle.model.specs.WithOrWithout.{withOrWithoutVerdict}
 use Rattle.model.specs.Report.{ReportMemory, reportVerdict}
-use Rattle.model.specs.Hosts.{codeUnit, codeOf, HostBillMemory, hostBillVerdict, HostWithOrWithoutMemory, hostWithOrWithoutVerdict}
+use Rattle.model.specs.Hosts.{codeUnit, codeOf, HostBillMemory, hostBillVerdict, HostWithOrWithoutMemory, hostWithOrWithoutVerdict, noneCode, HostLeastBudgetMemory, hostLeastBudgetVerdict}
 use Rattle.model.proofs.Verdicts.{broken≢passed}
 
 pub code-reads : (q i : ℕ) → q < codeUnit → (codeOf (broken q i) % codeUnit ≡ q) × (codeOf (broken q i) / codeUnit ≡ i)
 code-reads q i h = (omega arith, omega arith)
 
--- ---- the number of a broken rule is one byte, and not 0
+-- ---- the number of a broken rule is one byte, and neither 0 nor the one that answers none
 
-abbrev isByte : ℕ → Bool
-isByte q = ltb 0 q && ltb q codeUnit
+abbrev isNumber : ℕ → Bool
+isNumber q = ltb 0 q && ltb q noneCode
 
 pub record Numbered (v : Verdict) : Type 0 where
-  pub byte : (q i : ℕ) → v ≡ broken q i → isByte q ≡ true
+  pub number : (q i : ℕ) → v ≡ broken q i → isNumber q ≡ true
+
+pub numbered-within : {q i : ℕ} → Numbered (broken q i) → (0 < q) × (q < noneCode)
+numbered-within {q} {i} h = let p = both (ltb 0 q) (ltb q noneCode) (h .number q i refl) in (ltb-true 0 q (p .0), ltb-true q noneCode (p .1))
 
 pub code-none : (v : Verdict) → Numbered v → codeOf v ≡ 0 → v ≡ passed
 code-none passed h e = refl
-code-none (broken q i) h e = absurd (omega (arith, ltb-true 0 q (both (ltb 0 q) (ltb q codeUnit) (h .byte q i refl) .0)))
+code-none (broken q i) h e = absurd (omega (arith, numbered-within h .0))
 
 both-numbered : (a b : Verdict) → Numbered a → Numbered b → Numbered (a then b)
 both-numbered passed b h g = g
 both-numbered (broken q i) b h g = h
 
 passed-numbered : Numbered passed
-passed-numbered = record { byte = λ p j e. absurd (broken≢passed (sym e)) }
+passed-numbered = record { number = λ p j e. absurd (broken≢passed (sym e)) }
 
-ask-numbered : (q i : ℕ) (b : Bool) → isByte q ≡ true → Numbered (ask q i b)
+ask-numbered : (q i : ℕ) (b : Bool) → isNumber q ≡ true → Numbered (ask q i b)
 ask-numbered q i true h = passed-numbered
-ask-numbered q i false h = record { byte = λ p j e. cc }
+ask-numbered q i false h = record { number = λ p j e. cc }
 
 share-numbered : (i f : ℕ) (s : Share) → Numbered (askShare i f s)
 share-numbered i f (ratio p) = ask-numbered 11 i (leb p mostHit) refl
@@ -85,3 +88,7 @@ module _ (file : List ℕ) where
   pub with-or-without-numbered : (v b : ℕ) (memory : HostWithOrWithoutMemory) → Numbered (hostWithOrWithoutVerdict file v b memory)
   unfolding hostWithOrWithoutVerdict withOrWithoutVerdict
   with-or-without-numbered v b memory = search (both-numbered, ask-numbered, file-numbered)
+
+  pub least-budget-numbered : (memory : HostLeastBudgetMemory) → Numbered (hostLeastBudgetVerdict file memory)
+  unfolding hostLeastBudgetVerdict
+  least-budget-numbered memory = search (both-numbered, ask-numbered, file-numbered)

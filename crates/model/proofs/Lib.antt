@@ -17,6 +17,7 @@ pub mod Sets
 pub mod Order
 pub mod Plans
 pub mod WithOrWithout
+pub mod LeastBudget
 pub mod WithNode
 pub mod GreedySteps
 pub mod GreedyRuns
@@ -24,6 +25,8 @@ pub mod Written
 pub mod Reported
 pub mod Decimals
 pub mod Codes
+pub mod Asked
+pub mod Targets
 pub mod BillLaws
 pub mod CallLaws
 pub mod Laws
@@ -32,3 +35,4 @@ pub mod Situations
 pub mod Adds
 pub mod AddsCases
 pub mod WithOrWithoutCases
+pub mod LeastBudgetCases

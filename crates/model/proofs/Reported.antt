@@ -4,19 +4,20 @@ use mathlib.Core.Bool.{true, not}
 use mathlib.Core.Logic.{_↔_}
 use mathlib.Core.List.{List, [], _∷_, _++_, map}
 use Prim.Native.Nat.{ℕ, suc, _-_, _≤_}
-use native.Mathlib.Nat.{zero-add}
+use native.Mathlib.Nat.{zero-add, zero-mul}
 use native.Mathlib.Omega.{arith}
 use lib.Dec.{eqb}
 use lib.ListN.{length, replicate, getD}
+use lib.Seq.{take-at}
 use borrow.Author.Tests.{ne-eqb}
 use Rattle.laws.specs.Lists.{those}
 use Rattle.laws.proofs.Lists.{entry-of-range, none-of-these}
 use Rattle.laws.proofs.Stores.{part-of-rows}
 use Rattle.model.specs.File.{Tree, Demand, treeOf, demandOf, budgetOf}
 use Rattle.model.specs.Rules.{passed, isPassed, fileVerdict, accepted, ascends, enoughScratch, askScratch}
-use Rattle.model.specs.Plan.{plan, planTotal, row}
+use Rattle.model.specs.Plan.{plan, planTotal}
 use Rattle.model.specs.Greedy.{greedyTotal}
-use Rattle.model.specs.Calls.{after, budgets, planTotals, planRows, greedyTotals}
+use Rattle.model.specs.Calls.{after, budgets, planTotals, planRow, planRows, greedyTotals}
 use Rattle.model.specs.Report.{HoldsOptimum, setOfRow, ReportMemory, DemandThree, reportBuffersLong, reportVerdict}
 use Rattle.model.specs.Accepted.{Sound}
 use Rattle.model.proofs.Verdicts.{ask-passed, then-passed, is-passed}
@@ -59,17 +60,21 @@ module _ (file : List ℕ) where
   abbrev d : Demand
   d = demandOf file
 
+  plan-of-row : (b : ℕ) → those (λ v. not (eqb v 0)) (planRow file b) ≡ plan t d b
+  plan-of-row b =
+      those-of-row 0 (t .count) (budgetOf file - length (plan t d b)) (plan t d b) (set-ascends t (plan t d b) (plan-ranks-first t d b .isASet))
+
+  -- what one row of the plan holds, whatever stands beyond it
+  pub one-row-holds-plan : (rest : List ℕ) (b : ℕ) → b ≤ budgetOf file → setOfRow (budgetOf file) (planRow file b ++ rest) 0 ≡ plan t d b
+  unfolding setOfRow
+  one-row-holds-plan rest b h = rw (zero-mul (budgetOf file), take-at (planRow file b) rest (budgetOf file) (length-plan-row file b h)) (plan-of-row b)
+
   -- what a report holds at budget b, whatever stands beyond it
   pub row-holds-plan : (rest : List ℕ) (b : ℕ) → b ≤ budgetOf file → setOfRow (budgetOf file) (planRows file ++ rest) b ≡ plan t d b
   unfolding setOfRow planRows
   row-holds-plan rest b h =
       let k = budgetOf file in
-      rw (
-        part-of-rows (λ b. row k (plan t d b)) k 0 (suc k) b rest
-            (λ j _ l. length-plan-row file j (omega arith)) (omega arith),
-        zero-add b,
-      )
-      (those-of-row 0 (t .count) (k - length (plan t d b)) (plan t d b) (set-ascends t (plan t d b) (plan-ranks-first t d b .isASet)))
+      rw (part-of-rows (planRow file) k 0 (suc k) b rest (λ j _ l. length-plan-row file j (omega arith)) (omega arith), zero-add b) (plan-of-row b)
 
   holds-entry : (f : ℕ → ℕ) (rest : List ℕ) (b : ℕ) → b ≤ budgetOf file → getD (map f (budgets file) ++ rest) b 0 ≡ f b
   holds-entry f rest b h = entry-of-range f 0 (suc (budgetOf file)) b rest (omega arith) ∙ ap f (zero-add b)

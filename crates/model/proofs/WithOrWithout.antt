@@ -14,7 +14,8 @@ use Rattle.model.specs.File.{Tree, Demand}
 use Rattle.model.specs.Rules.{ascends}
 use Rattle.model.specs.Bill.{total}
 use Rattle.model.specs.Plan.{allSets, plan, planTotal}
-use Rattle.model.specs.WithOrWithout.{Least, none, leastIs, lesser, leastOf, withIt, withoutIt, SetWhere, LeastAmong, LeastWhere, WithOrWithoutSaid}
+use Rattle.model.specs.Calls.{Least, none, leastIs}
+use Rattle.model.specs.WithOrWithout.{lesser, leastOf, withIt, withoutIt, SetWhere, LeastAmong, LeastWhere, WithOrWithoutSaid}
 use Rattle.model.proofs.Ascending.{ascends-cons, set-said, empty-is-set}
 use Rattle.model.proofs.Sets.{all-sets}
 use Rattle.model.proofs.Plans.{plan-ranks-first, plan-least}

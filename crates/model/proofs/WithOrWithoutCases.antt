@@ -83,6 +83,7 @@ with-or-without-cases = record {
   settled = λ c. (c .answers, c .scratchAfter .0, c .scratchAfter .1);
   settledNone = λ c. (c .answers, c .scratchAfter .0, c .scratchAfter .1);
   settledRefused = λ c. (c .answers, c .scratchAfter);
+  settledRecord = λ c. (c .answers, c .scratchAfter);
   settledShort = λ c. (c .answers, c .scratchAfter);
   hostSettled = λ c. let s = host-settled c in (s .0, s .1 .0, s .1 .1, s .2);
   hostSettledLargest = λ c. let s = host-settled c in (s .0, s .2);

@@ -26,6 +26,11 @@ abbrev pub answer : {A : Type 0} → Verdict → A → Answer A
 answer passed x = answered x
 answer (broken q i) x = refused q i
 
+-- a least number, or none where there is no such number
+pub data Least : Type 0 where
+  none : Least
+  leastIs : ℕ → Least
+
 -- a buffer after a call: what is written, and "entries beyond those written stay"; a refusal changes nothing
 abbrev pub after : Verdict → List ℕ → List ℕ → List ℕ
 after passed written old = written ++ drop (length written) old
@@ -107,8 +112,12 @@ budgets file = range 0 (suc (budgetOf file))
 unfoldable pub planTotals : List ℕ → List ℕ
 planTotals file = map (planTotal (treeOf file) (demandOf file)) (budgets file)
 
+-- the row of budget b
+abbrev pub planRow : List ℕ → ℕ → List ℕ
+planRow file b = row (budgetOf file) (plan (treeOf file) (demandOf file) b)
+
 unfoldable pub planRows : List ℕ → List ℕ
-planRows file = flatMap (λ b. row (budgetOf file) (plan (treeOf file) (demandOf file) b)) (budgets file)
+planRows file = flatMap (planRow file) (budgets file)
 
 -- what is lent to the plan call
 pub record PlanMemory : Type 0 where

@@ -1,13 +1,15 @@
--- The calls of document 01 and of 02, item 1, as hosts in C make them: an answer is one number, and totals are written to a buffer.
+-- The calls of document 01 and of 02, items 1 and 13, as hosts in C make them: an answer is one number, and totals and budgets are
+-- written to buffers.
 use mathlib.Core.Path.{_≡_}
 use mathlib.Core.Bool.{cond, _&&_}
 use mathlib.Core.List.{List, [], _∷_}
 use Prim.Native.Nat.{ℕ, _+_, _*_, _-_, _^_}
-use Rattle.model.specs.File.{treeOf, demandOf}
-use Rattle.model.specs.Rules.{Verdict, passed, broken, _then_, fileVerdict, accepted, askSet, scratchWords, longEnough, askBuffers}
+use Rattle.model.specs.File.{treeOf, demandOf, budgetOf}
+use Rattle.model.specs.Rules.{Verdict, passed, broken, _then_, fileVerdict, accepted, askSet, scratchWords, askScratch, longEnough, askBuffers}
 use Rattle.model.specs.Bill.{total}
-use Rattle.model.specs.Calls.{after, ScratchAfter, billBuffersLong, servingNodes, linkLoads}
-use Rattle.model.specs.WithOrWithout.{Least, none, leastIs, withOrWithoutVerdict, bothLeast}
+use Rattle.model.specs.Calls.{Answer, answered, refused, answer, Least, none, leastIs, after, ScratchAfter, billBuffersLong, servingNodes, linkLoads}
+use Rattle.model.specs.WithOrWithout.{withOrWithoutVerdict, bothLeast}
+use Rattle.model.specs.LeastBudget.{leastBudget, rowWritten}
 
 -- the number of a question is one byte of the code
 abbrev pub codeUnit : ℕ
@@ -72,3 +74,40 @@ pub record HostWithOrWithoutCall (file : List ℕ) (v b : ℕ) (memory : HostWit
   pub verdict : a ≡ hostWithOrWithoutVerdict file v b memory
   pub scratchAfter : ScratchAfter a (scratchWords file) (memory .scratch) (memory′ .scratch)
   pub totalsAfter : memory′ .totals ≡ after a (bothTotals file v b) (memory .totals)
+
+-- ---- from a target to a budget: the budget goes to a buffer of one entry, which joins question 14
+
+-- the number that stands for the answer none; it is no question's
+abbrev pub noneCode : ℕ
+noneCode = 255
+
+-- the answer as one number: 0 where a budget is found
+abbrev pub leastBudgetCode : Answer Least → ℕ
+leastBudgetCode (answered none) = noneCode
+leastBudgetCode (answered (leastIs b)) = 0
+leastBudgetCode (refused q i) = codeOf (broken q i)
+
+-- what a host lends to the call
+pub record HostLeastBudgetMemory : Type 0 where
+  pub scratch : List ℕ
+  pub budget : List ℕ
+  pub row : List ℕ
+
+-- as without a host, and 14 asks for the budget's entry too
+unfoldable pub hostLeastBudgetVerdict : List ℕ → HostLeastBudgetMemory → Verdict
+hostLeastBudgetVerdict file memory =
+    fileVerdict file
+    then askScratch file (memory .scratch)
+    then askBuffers (longEnough 1 (memory .budget) && longEnough (budgetOf file) (memory .row))
+
+-- the budget in one entry; none writes nothing
+abbrev pub budgetWritten : Least → List ℕ
+budgetWritten none = []
+budgetWritten (leastIs b) = b ∷ []
+
+-- what the call of a host guarantees for all arguments
+pub record HostLeastBudgetCall (file : List ℕ) (target : ℕ) (memory : HostLeastBudgetMemory) (code : ℕ) (memory′ : HostLeastBudgetMemory) : Type 0 where
+  pub answers : code ≡ leastBudgetCode (answer (hostLeastBudgetVerdict file memory) (leastBudget file target))
+  pub scratchAfter : ScratchAfter (hostLeastBudgetVerdict file memory) (scratchWords file) (memory .scratch) (memory′ .scratch)
+  pub budgetAfter : memory′ .budget ≡ after (hostLeastBudgetVerdict file memory) (budgetWritten (leastBudget file target)) (memory .budget)
+  pub rowAfter : memory′ .row ≡ after (hostLeastBudgetVerdict file memory) (rowWritten file (leastBudget file target)) (memory .row)

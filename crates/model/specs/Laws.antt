@@ -1,7 +1,7 @@
 -- The laws of the definitions, a to n, on one page. They are proved for every accepted file: `lawful` in proofs/Laws.
 -- Numbers are written out here, so that a wrong constant breaks a law. Laws of calls are in `CallLaws`, of a file's version in
--- `Versions`, of a client's situation in `Situations`, of files that add in `Adds`, and of the least totals with a node and without it
--- in `WithOrWithout`.
+-- `Versions`, of a client's situation in `Situations`, of files that add in `Adds`, of the least totals with a node and without it
+-- in `WithOrWithout`, and of the least budget for a target in `LeastBudget`.
 use mathlib.Core.Path.{_≡_}
 use mathlib.Core.Bool.{true, false, _&&_, _||_}
 use mathlib.Core.List.{List, [], List·Memᴰ}

@@ -8,6 +8,7 @@ pub mod Plan
 pub mod Greedy
 pub mod Calls
 pub mod WithOrWithout
+pub mod LeastBudget
 pub mod Report
 pub mod Hosts
 pub mod CallLaws
@@ -22,5 +23,6 @@ pub mod Adds
 pub mod Samples
 pub mod AddsCases
 pub mod WithOrWithoutCases
+pub mod LeastBudgetCases
 pub mod VersionCases
 pub mod Worked

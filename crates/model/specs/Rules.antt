@@ -1,6 +1,6 @@
 -- Document 01, "The questions, in this order", with 02, items 1, 2, 3 and 9: each rule, and what a file, a set, a scratch and a buffer
 -- must fulfil.
--- "Rule N" is question N. The order in which a call asks them is in Calls, WithOrWithout, Report and Hosts.
+-- "Rule N" is question N. The order in which a call asks them is in Calls, WithOrWithout, LeastBudget, Report and Hosts.
 use mathlib.Core.Bool.{Bool, true, false, cond, _&&_}
 use mathlib.Core.List.{List, [], _∷_}
 use Prim.Native.Nat.{ℕ, zero, suc, _+_, _*_, min}
@@ -128,7 +128,7 @@ askScratch s scratch = ask 13 0 (enoughScratch s scratch)
 abbrev pub longEnough : ℕ → List ℕ → Bool
 longEnough m buffer = leb m (length buffer)
 
--- 14: "Is every answer buffer long enough?" Calls names for each call the test of its buffers.
+-- 14: "Is every answer buffer long enough?" Each call's verdict names the test of its buffers.
 abbrev pub askBuffers : Bool → Verdict
 askBuffers all = ask 14 0 all
 

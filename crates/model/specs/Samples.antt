@@ -1,11 +1,12 @@
 -- The tree files of the worked cases, written out byte by byte, and the memory lent in them.
 use mathlib.Core.List.{List, [], _∷_, _++_, flatMap}
 use Prim.Native.Nat.{ℕ}
-use lib.ListN.{take, replicate}
+use lib.ListN.{take, drop, replicate}
 use Rattle.laws.specs.Lists.{range}
 use Rattle.model.specs.Calls.{BillMemory, PlanMemory, GreedyMemory}
+use Rattle.model.specs.LeastBudget.{LeastBudgetMemory}
 use Rattle.model.specs.Report.{ReportMemory}
-use Rattle.model.specs.Hosts.{HostBillMemory, HostWithOrWithoutMemory}
+use Rattle.model.specs.Hosts.{HostBillMemory, HostWithOrWithoutMemory, HostLeastBudgetMemory}
 
 -- ---- version 1
 
@@ -18,6 +19,10 @@ fileA =
     ++ (0x00 ∷ 0x01 ∷ 0x00 ∷ 0x01 ∷ 0x00 ∷ 0x00 ∷ 0x00 ∷ 0x14 ∷ 0x03 ∷ 0xE8 ∷ [])
     ++ (0x00 ∷ 0x01 ∷ 0x00 ∷ 0x01 ∷ 0x00 ∷ 0x00 ∷ 0x00 ∷ 0x14 ∷ 0x03 ∷ 0xE8 ∷ [])
     ++ (0x00 ∷ 0x00 ∷ 0x00 ∷ 0x04 ∷ 0x00 ∷ 0x00 ∷ 0x00 ∷ 0x05 ∷ 0x03 ∷ 0x20 ∷ [])
+
+-- tree A with the budget k
+abbrev pub budgetA : ℕ → List ℕ
+budgetA k = take 8 fileA ++ (k ∷ drop 9 fileA)
 
 -- the mark, version 1, then the two bytes of n and the two bytes of k
 abbrev pub header : ℕ → ℕ → ℕ → ℕ → List ℕ
@@ -255,6 +260,12 @@ hostBillMemory totals servings loads =
 
 abbrev pub hostWithOrWithoutMemory : ℕ → ℕ → HostWithOrWithoutMemory
 hostWithOrWithoutMemory scratch totals = record { scratch = replicate scratch 7; totals = replicate totals 7 }
+
+abbrev pub leastBudgetMemory : ℕ → ℕ → LeastBudgetMemory
+leastBudgetMemory scratch row = record { scratch = replicate scratch 7; row = replicate row 7 }
+
+abbrev pub hostLeastBudgetMemory : ℕ → ℕ → ℕ → HostLeastBudgetMemory
+hostLeastBudgetMemory scratch budget row = record { scratch = replicate scratch 7; budget = replicate budget 7; row = replicate row 7 }
 
 abbrev pub planMemory : ℕ → ℕ → ℕ → PlanMemory
 planMemory scratch totals rows = record { scratch = replicate scratch 7; totals = replicate totals 7; rows = replicate rows 7 }

@@ -12,14 +12,9 @@ use Rattle.model.specs.File.{Tree, Demand, treeOf, demandOf}
 use Rattle.model.specs.Rules.{Verdict, _then_, fileVerdict, isSet, askNode, scratchWords, askScratch}
 use Rattle.model.specs.Bill.{total}
 use Rattle.model.specs.Plan.{allSets, plan, planTotal}
-use Rattle.model.specs.Calls.{Answer, answer, ScratchAfter}
+use Rattle.model.specs.Calls.{Answer, answer, Least, none, leastIs, ScratchAfter}
 
 -- ---- the two minima
-
--- a least total, or none where there is no set
-pub data Least : Type 0 where
-  none : Least
-  leastIs : ℕ → Least
 
 -- the lesser of two; none counts as larger than every total
 abbrev pub lesser : Least → Least → Least

@@ -5,15 +5,11 @@ use mathlib.Core.List.{List, [], _∷_, _++_}
 use Prim.Native.Nat.{ℕ}
 use lib.ListN.{length, take, drop, replicate}
 use Rattle.model.specs.Rules.{Verdict, passed, broken}
-use Rattle.model.specs.Calls.{Answer, answered, refused}
-use Rattle.model.specs.WithOrWithout.{Least, none, leastIs, withOrWithoutVerdict, bothLeast, WithOrWithoutCall}
+use Rattle.model.specs.Calls.{Answer, answered, refused, Least, none, leastIs}
+use Rattle.model.specs.WithOrWithout.{withOrWithoutVerdict, bothLeast, WithOrWithoutCall}
 use Rattle.model.specs.Hosts.{codeOf, HostWithOrWithoutMemory, hostWithOrWithoutVerdict, HostWithOrWithoutCall}
 use Rattle.model.specs.Cases.{chain}
-use Rattle.model.specs.Samples.{fileA, serverRecord, oneNode, largest, tooLong, threeSevenths, tooMuch, thirdA, closedLast, lastByte, hostWithOrWithoutMemory}
-
--- tree A with the budget k
-abbrev pub budgetA : ℕ → List ℕ
-budgetA k = take 8 fileA ++ (k ∷ drop 9 fileA)
+use Rattle.model.specs.Samples.{fileA, budgetA, serverRecord, oneNode, largest, tooLong, threeSevenths, tooMuch, thirdA, closedLast, lastByte, hostWithOrWithoutMemory}
 
 pub record WithOrWithoutCases : Type 0 where
   -- tree A plans {}, {1} and {2, 3}. "or none where b is 0"
@@ -85,6 +81,8 @@ pub record WithOrWithoutCases : Type 0 where
       → (a ≡ answered (none, leastIs 140000)) × (length scratch′ ≡ 36) × (drop 35 scratch′ ≡ 7 ∷ [])
   pub settledRefused : {a : Answer (Least × Least)} {scratch scratch′ : List ℕ} → WithOrWithoutCall fileA 5 1 scratch a scratch′
       → (a ≡ refused 16 0) × (scratch′ ≡ scratch)
+  pub settledRecord : {a : Answer (Least × Least)} {scratch scratch′ : List ℕ} → WithOrWithoutCall tooLong 1 1 scratch a scratch′
+      → (a ≡ refused 9 1) × (scratch′ ≡ scratch)
   pub settledShort : {a : Answer (Least × Least)} {scratch′ : List ℕ} → WithOrWithoutCall fileA 1 1 (replicate 34 7) a scratch′
       → (a ≡ refused 13 0) × (scratch′ ≡ replicate 34 7)
   pub hostSettled : {a : Verdict} {memory′ : HostWithOrWithoutMemory} → HostWithOrWithoutCall fileA 1 1 (hostWithOrWithoutMemory 36 3) a memory′

@@ -9,8 +9,8 @@ use borrow.Author.Tests.{leb-true, le-ltb, lt-ltb, le-leb, lt-leb}
 use Rattle.laws.specs.Fronts.{FrontOnly}
 use Rattle.model.specs.File.{countOf, budgetOf}
 use Rattle.model.specs.Rules.{passed, ask, fileVerdict, askNode, scratchWords}
-use Rattle.model.specs.Calls.{Answer, answered, refused, answer}
-use Rattle.model.specs.WithOrWithout.{Least, bothLeast, withOrWithoutVerdict, WithOrWithoutCall}
+use Rattle.model.specs.Calls.{Answer, answered, refused, answer, Least}
+use Rattle.model.specs.WithOrWithout.{bothLeast, withOrWithoutVerdict, WithOrWithoutCall}
 use Rattle.model.proofs.CallLaws.{calls-lawful}
 use Rattle.model.proofs.Verdicts.{ask-passed, then-passed, answered-passed, refused-broken}
 use Rattle.fields.specs.declared.Tree as code

@@ -10,7 +10,8 @@ use lib.Dec.{leb}
 use borrow.Author.Tests.{leb-true, leb-false}
 use Rattle.laws.proofs.Bools.{by-test, both}
 use Rattle.model.specs.File.{treeOf, demandOf, mostBudget}
-use Rattle.model.specs.WithOrWithout.{Least, none, leastIs, withoutIt, bothLeast, LeastWhere}
+use Rattle.model.specs.Calls.{Least, none, leastIs}
+use Rattle.model.specs.WithOrWithout.{withoutIt, bothLeast, LeastWhere}
 use Rattle.model.proofs.Accepted.{accepted-header}
 use Rattle.model.proofs.WithOrWithout.{empty-where, single-where, with-or-without-said}
 use Rattle.best_rows.specs.Least.{firstLeast, runningMin}

@@ -1,6 +1,5 @@
 -- The call's answer in the model's words.
-use Rattle.model.specs.Calls.{Answer, answered, refused}
-use Rattle.model.specs.WithOrWithout.{Least, none, leastIs}
+use Rattle.model.specs.Calls.{Answer, answered, refused, Least, none, leastIs}
 use Rattle.one_site.specs.declared.WithOrWithout.{WithOrWithout}
 use Rattle.one_site.specs.declared.WithOrWithout.the-variants.{Both, Without, Refused}
 

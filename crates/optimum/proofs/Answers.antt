@@ -19,15 +19,9 @@ use Rattle.model.specs.Calls.{answered, refused, answer, after, planTotals, pla
 use Rattle.model.proofs.Written.{length-plan-totals, length-plan-rows}
 use Rattle.fields.specs.declared.Tree as code
 use Rattle.tree_file.specs.Checks.{sizesOf}
-use Rattle.lent.specs.Lent.{lentVerdict, LentRoom}
+use Rattle.lent.specs.Lent.{lentVerdict}
 use Rattle.lent.proofs.Asked.{lent-told, refused-before-buffers, buffers-decide, totals-long}
 use Rattle.optimum.specs.Budgets.{Buffers}
-
--- ---- what the rules before rule 14 say, where they hold
-
-module _ (file scratch : List ℕ) {sizes : code.Tree} (e : answered sizes ≡ answer (lentVerdict file (length scratch)) (sizesOf file)) where
-  pub plan-room : LentRoom file sizes scratch
-  plan-room = let told = lent-told file e in record { of-file = record { accepted = told .0; of-file = told .2 }; room = told .1 }
 
 -- ---- what is written stands in front of the entries beyond it
 

@@ -1,5 +1,5 @@
 -- From the line of the server's row to the plan: how many caches each budget has, its total and its row.
-use mathlib.Core.Path.{_≡_, refl, sym, ap, _∙_}
+use mathlib.Core.Path.{_≡_, refl, sym, _∙_}
 use mathlib.Core.Bool.{Bool, true, false}
 use mathlib.Core.List.{List}
 use Prim.Native.Nat.{ℕ, zero, suc, _+_, _*_, _-_, _≤_, _<_}
@@ -12,8 +12,7 @@ use Rattle.laws.proofs.Stores.{sets-append, loop-begins, loop-turns}
 use Rattle.laws.proofs.Rows.{rows-begin, rows-turn}
 use Rattle.model.specs.File.{Tree, Demand, treeOf, demandOf, budgetOf}
 use Rattle.model.specs.Plan.{plan, planTotal, row}
-use Rattle.model.specs.Calls.{planTotals, planRows}
-use Rattle.model.specs.Accepted.{Sound}
+use Rattle.model.specs.Calls.{planTotals, planRow, planRows}
 use Rattle.model.proofs.Bounds.{total-bound}
 use Rattle.model.proofs.Written.{length-plan-row}
 use Rattle.best_rows.specs.Least.{better, firstLeast}
@@ -28,8 +27,8 @@ use Rattle.node_words.specs.Words.{wordOf, childWord}
 use Rattle.lines.specs.Line.{entryOf, HoldsBest}
 use Rattle.table.specs.Table.{lineIn, Table}
 use Rattle.table.proofs.Server.{table-sound, table-child, server-line}
-use Rattle.optimum.specs.Walk.{RowServed, RowToWalk}
-use Rattle.optimum.specs.Budgets.{planRow, Budget, Buffers, Planned}
+use Rattle.optimum.specs.Walk.{RowToWalk}
+use Rattle.optimum.specs.Budgets.{Budget, Buffers, Planned}
 use Rattle.optimum.proofs.Served.{children-served}
 
 -- ---- how many caches a budget has
@@ -58,26 +57,49 @@ module _ (t : Tree) (d : Demand) (allows : ℕ → Bool → Bool) where
   least-count-next zero = better-self (bestAt t d allows (firstChild t 0) 0) 0
   least-count-next (suc b) = let before : suc b - 1 ≡ b = omega arith in rw before
 
-  least-count-within : (b : ℕ) → leastCount t d allows b ≤ b
+  pub least-count-within : (b : ℕ) → leastCount t d allows b ≤ b
   unfolding leastCount
   least-count-within b = first-least-within (bestAt t d allows (firstChild t 0) 0) b
+
+-- ---- the row of a budget, from the table
+
+module _ {file starts widths s : List ℕ} {k b count : ℕ} (same : k ≡ budgetOf file) (table : Table file (mayBe (treeOf file)) starts widths s)
+    (within : b ≤ budgetOf file) (counted : count ≡ leastCount (treeOf file) (demandOf file) (mayBe (treeOf file)) b) where
+  -- that many caches of the server's row are the plan, and cost its total
+  found : (bestNodes (treeOf file) (demandOf file) (mayBe (treeOf file)) (firstChild (treeOf file) 0) 0 count ≡ plan (treeOf file) (demandOf file) b)
+      × (bestAt (treeOf file) (demandOf file) (mayBe (treeOf file)) (firstChild (treeOf file) 0) 0 count ≡ planTotal (treeOf file) (demandOf file) b)
+  found = rw counted (optimum-found file (table .stored .room .accepted) b)
+
+  count-within : count ≤ b
+  count-within = rw counted (least-count-within (treeOf file) (demandOf file) (mayBe (treeOf file)) b)
+
+  -- the server's row can have that many caches, and a row of the answer has room for them
+  pub row-to-walk : {at : ℕ} {rows : List ℕ} → at + k ≤ length rows
+      → RowToWalk file (mayBe (treeOf file)) starts widths s (firstChild (treeOf file) 0) 0 count at rows
+  unfolding cap
+  row-to-walk room =
+      let t = treeOf file in
+      let d = demandOf file in
+      let ok = table-sound table in
+      record {
+        table = table;
+        row = record {
+          served = children-served t (ok .preorder) 0 (ok .some);
+          within = omega (arith, count-within);
+          attained = omega (arith, found .1, total-bound t d ok (plan t d b));
+        };
+        room = omega (arith, count-within);
+      }
+
+  -- what is written there is the plan's row
+  pub row-found : (rows : List ℕ) (at : ℕ) {l : List ℕ}
+      → l ≡ sets rows at (row k (bestNodes (treeOf file) (demandOf file) (mayBe (treeOf file)) (firstChild (treeOf file) 0) 0 count))
+      → l ≡ sets rows at (planRow file b)
+  row-found rows at e = rw (same, found .0) at e
 
 -- ---- one budget
 
 module _ {file : List ℕ} {k : ℕ} {starts widths s : List ℕ} {b last : ℕ} (r : Budget file k starts widths s b last) where
-  -- that many caches of the server's row are the plan, and cost its total
-  found : (bestNodes (treeOf file) (demandOf file) (mayBe (treeOf file)) (firstChild (treeOf file) 0) 0 (leastCount (treeOf file) (demandOf file) (mayBe (treeOf file)) b) ≡ plan (treeOf file) (demandOf file) b)
-      × (bestAt (treeOf file) (demandOf file) (mayBe (treeOf file)) (firstChild (treeOf file) 0) 0 (leastCount (treeOf file) (demandOf file) (mayBe (treeOf file)) b) ≡ planTotal (treeOf file) (demandOf file) b)
-  found = optimum-found file (r .table .stored .room .accepted) b
-
-  ok : Sound (treeOf file) (demandOf file)
-  ok = table-sound (r .table)
-
-  -- ---- the line of the server's row
-
-  served : RowServed (treeOf file) (firstChild (treeOf file) 0) 0
-  served = children-served (treeOf file) (ok .preorder) 0 (ok .some)
-
   abbrev serverBest : ℕ → ℕ
   serverBest = bestAt (treeOf file) (demandOf file) (mayBe (treeOf file)) (firstChild (treeOf file) 0) 0
 
@@ -99,41 +121,17 @@ module _ {file : List ℕ} {k : ℕ} {starts widths s : List ℕ} {b last : ℕ}
           ∙ better-by-line serverBest (budgetOf file + 1) last b line-holds (omega (arith, wide, last-within)) wide
           ∙ rw (r .counted) (least-count-next (treeOf file) (demandOf file) (mayBe (treeOf file)) b)
 
-      count-within : count ≤ b
-      count-within = rw count-found (least-count-within (treeOf file) (demandOf file) (mayBe (treeOf file)) b)
-
       -- and its entry there the plan's total
       pub total-found : entryOf l count ≡ planTotal (treeOf file) (demandOf file) b
-      total-found = line-holds .is count (omega (arith, count-within, wide)) ∙ ap serverBest count-found ∙ found .1
+      total-found =
+          line-holds .is count (omega (arith, count-within (r .budget) (r .table) (r .within) count-found, wide))
+          ∙ found (r .budget) (r .table) (r .within) count-found .1
 
-      -- ---- its row
-
-      -- the server's row can have that many caches, and there is room for the row of the answer
-      pub budget-row : {totals rows : List ℕ} → Buffers file totals rows
-          → RowToWalk file (mayBe (treeOf file)) starts widths s (firstChild (treeOf file) 0) 0 count (b * k) rows × (b * k + k ≤ length rows)
-      unfolding cap
-      budget-row {rows = rows} long =
-          let t = treeOf file in
-          let d = demandOf file in
-          let last-row = row-before {i = b} {j = budgetOf file + 1} (budgetOf file) (omega (arith, r .within)) in
-          let end : b * k + k ≤ length rows = rw (r .budget) (omega (arith, last-row, long .rowsLong)) in (
-            record {
-              table = r .table;
-              row = record {
-                served = served;
-                within = omega (arith, count-within, r .within);
-                attained = rw count-found (omega (arith, found .1, total-bound t d ok (plan t d b)));
-              };
-              room = omega (arith, count-within, r .within, r .budget, end);
-            },
-            end,
-          )
-
-      -- what is written there is the plan's row
-      pub row-found : (rows : List ℕ) (at : ℕ) {l : List ℕ}
-          → l ≡ sets rows at (row k (bestNodes (treeOf file) (demandOf file) (mayBe (treeOf file)) (firstChild (treeOf file) 0) 0 count))
-          → l ≡ sets rows at (planRow file b)
-      row-found rows at e = rw (r .budget, count-found, found .0) at e
+  -- there is room for its row
+  pub budget-room : {totals rows : List ℕ} → Buffers file totals rows → b * k + k ≤ length rows
+  budget-room long =
+      let last-row = row-before {i = b} {j = budgetOf file + 1} (budgetOf file) (omega (arith, r .within)) in
+      rw (r .budget) (omega (arith, last-row, long .rowsLong))
 
 -- ---- a row of the answer
 

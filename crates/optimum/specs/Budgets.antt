@@ -6,14 +6,11 @@ use lib.ListN.{length}
 use lib.Seq.{sets}
 use Rattle.laws.specs.Lists.{range}
 use Rattle.model.specs.File.{treeOf, demandOf, budgetOf}
-use Rattle.model.specs.Plan.{plan, planTotal, row}
+use Rattle.model.specs.Plan.{planTotal}
+use Rattle.model.specs.Calls.{planRow}
 use Rattle.best_rows.specs.Guarded.{mayBe}
 use Rattle.best_rows.specs.BestAt.{leastCount}
 use Rattle.table.specs.Table.{Table}
-
--- the plan's row of budget b
-abbrev pub planRow : List ℕ → ℕ → List ℕ
-planRow file b = row (budgetOf file) (plan (treeOf file) (demandOf file) b)
 
 -- what budget b is written from: the table, and how many caches the budget before it has
 pub record Budget (file : List ℕ) (k : ℕ) (starts widths s : List ℕ) (b last : ℕ) : Type 0 where

@@ -6,10 +6,10 @@ ghost use lib.Dec.{leb};
 ghost use lib.ListN.{length, set, replicate};
 ghost use lib.Seq.{sets};
 ghost use Rattle.laws.specs.Fronts.{FrontOnly};
-ghost use Rattle.model.specs.File.{mostBudget, recordLength, budgetOf, treeOf, demandOf};
+ghost use Rattle.model.specs.File.{mostNodes, mostBudget, recordLength, budgetOf, treeOf, demandOf};
 ghost use Rattle.model.specs.Rules.{scratchWords};
 ghost use Rattle.model.specs.Plan.{planTotal, row};
-ghost use Rattle.model.specs.Calls.{planTotals, planRows, PlanCall};
+ghost use Rattle.model.specs.Calls.{planTotals, planRow, planRows, PlanCall};
 ghost use Rattle.tree_file.specs.Checks.{verdictOf};
 ghost use Rattle.lent.specs.Lent.{LentRoom};
 ghost use Rattle.best_rows.specs.Least.{better};
@@ -20,7 +20,7 @@ ghost use Rattle.node_words.specs.Words.{depthWord, wordOf};
 ghost use Rattle.lines.specs.Line.{entryOf};
 ghost use Rattle.table.specs.Table.{Table};
 ghost use Rattle.optimum.specs.Walk.{nodesFrom, RowToSplit, RowToWalk, NodeToWalk};
-ghost use Rattle.optimum.specs.Budgets.{planRow, Budget, Buffers};
+ghost use Rattle.optimum.specs.Budgets.{Budget, Buffers};
 use table::Wish;
 use tree_file::Checked;
 use tree_file::Ruling;
@@ -170,7 +170,7 @@ fn clear(rows: &mut [u16], start: usize, end: usize)
 }
 
 // Writes a row of the answer from `at` on: the m caches of the server's row, then zeros.
-fn write_row(
+pub fn write_row(
     file: &[u8],
     k: usize,
     s: &[u64],
@@ -248,7 +248,24 @@ fn write_plan(
     }
 }
 
-// Notes where the lines stand, fills the table in the scratch, and writes the plan from it.
+// Notes where the lines stand, and fills the plan's table in the scratch.
+pub fn plan_table(
+    file: &[u8],
+    tree: fields::Tree,
+    scratch: &mut [u64],
+    starts: &mut [u32],
+    widths: &mut [u16],
+)
+    requires { ⌜ LentRoom (now file) tree (now scratch) ⌝ }
+    requires { ⌜ (mostNodes ≤ length (now starts)) × (mostNodes ≤ length (now widths)) ⌝ }
+    ensures { λ _. ⌜ Table (now (file .entry)) (mayBe (treeOf (now (file .entry)))) (now (starts .exit)) (now (widths .exit)) (now (scratch .exit)) ⌝ }
+    ensures { λ _. ⌜ FrontOnly (scratchWords (now (file .entry))) (now (scratch .entry)) (now (scratch .exit)) ⌝ }
+{
+    places::note_places(file, tree, starts, widths);
+    table::make_table(file, tree.nodes, scratch, starts, widths, Wish::None);
+}
+
+// Makes the table, and writes the plan from it.
 pub fn make_plan(
     file: &[u8],
     tree: fields::Tree,
@@ -264,8 +281,7 @@ pub fn make_plan(
 {
     let mut starts = [0u32; fields::Tree::NODES];
     let mut widths = [0u16; fields::Tree::NODES];
-    places::note_places(file, tree, &mut starts, &mut widths);
-    table::make_table(file, tree.nodes, scratch, &starts, &widths, Wish::None);
+    plan_table(file, tree, scratch, &mut starts, &mut widths);
     write_plan(file, tree.budget, scratch, &starts, &widths, totals, rows);
 }
 

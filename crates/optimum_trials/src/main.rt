@@ -26,18 +26,6 @@ fn is_accepted(ruling: Ruling) -> bool {
 
 // ---- the report at each budget
 
-// Does a row of k entries hold the set's nodes in order, then zeros?
-fn holds_set(row: &[u16], k: usize, set: u8) -> bool {
-    let mut j = 0;
-    while j < k {
-        if trial_buffers::node_at(row, j) != small_trees::member(set, j) {
-            return false;
-        }
-        j += 1;
-    }
-    true
-}
-
 // The plan's set and total at b, and the loads times lengths of the set that the row holds.
 fn check_plan(i: u64, tree: SmallTree, b: usize, k: usize, totals: &[u64], rows: &[u16])
     requires { ⌜ (b ≤ 6) × (k ≤ 6) ⌝ }
@@ -48,7 +36,7 @@ fn check_plan(i: u64, tree: SmallTree, b: usize, k: usize, totals: &[u64], rows:
     if total != small_plans::total(tree, set) {
         trial_text::print_difference(i, b, b" plan's total");
     }
-    if !holds_set(row, k, set) {
+    if !small_trees::holds_set(row, k, set) {
         trial_text::print_difference(i, b, b" plan's set");
     }
     if total != small_plans::loads_by_lengths(tree, small_trees::set_of(row)) {

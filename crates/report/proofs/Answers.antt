@@ -17,8 +17,8 @@ use Rattle.model.proofs.Reported.{report-meets-demand}
 use Rattle.fields.specs.declared.Tree as code
 use Rattle.tree_file.specs.Checks.{sizesOf}
 use Rattle.lent.specs.Lent.{lentVerdict}
-use Rattle.lent.proofs.Asked.{lent-told, refused-before-buffers, buffers-decide}
-use Rattle.optimum.proofs.Answers.{plan-room, plan-long, totals-after, rows-after}
+use Rattle.lent.proofs.Asked.{lent-told, lent-room, refused-before-buffers, buffers-decide}
+use Rattle.optimum.proofs.Answers.{plan-long, totals-after, rows-after}
 use Rattle.greedy.specs.Run.{GreedyWritten}
 use Rattle.greedy.proofs.Answers.{nodes-fit, greedy-room}
 use Rattle.report.specs.Written.{ReportRoom, ReportWritten}
@@ -84,7 +84,7 @@ module _ (file : List ℕ) (memory : ReportMemory) where
           let forPlan : PlanMemory = record { scratch = memory .scratch; totals = memory .planTotals; rows = memory .planRows } in
           let forGreedy : GreedyMemory = record { scratch = memory .scratch; totals = memory .greedyTotals; nodes = memory .greedyNodes } in
           record {
-            forPlan = plan-room file (memory .scratch) e;
+            forPlan = lent-room file (memory .scratch) e;
             planLong = plan-long file forPlan e (fit .0);
             forGreedy = greedy-room file forGreedy e (fit .1);
           }

@@ -147,6 +147,21 @@ pub fn set_of(row: &[u16]) -> u8 {
     set
 }
 
+// Are the first k entries of a row the members of a set, ascending, and then zeros?
+pub fn holds_set(row: &[u16], k: usize, set: u8) -> bool {
+    let mut j = 0;
+    while j < k {
+        if row.len() <= j {
+            return false;
+        }
+        if wide(row[j]) != member(set, j) {
+            return false;
+        }
+        j += 1;
+    }
+    true
+}
+
 // ---- routes
 
 // The parent of v, 0 of the server.

@@ -61,15 +61,27 @@ pub fn word(line: &[u8], k: usize) -> &[u8] {
     up_to(line, word_start(line, k), b' ')
 }
 
-// The number that decimal digits say; what is from 10^19 on is cut.
+// The largest number of 64 bits.
+const MOST: u64 = 18_446_744_073_709_551_615;
+
+// The number that decimal digits say, and the largest of 64 bits for every number above it.
 pub fn number(digits: &[u8]) -> u64 {
-    let mut value: u64 = 0;
+    let mut value = 0;
     let mut i = 0;
     while i < digits.len() {
-        value = value % 1_000_000_000_000_000_000 * 10 + digit(digits[i]) as u64;
+        value = with_digit(value, digit(digits[i]));
         i += 1;
     }
     value
+}
+
+// A number with one digit more at its end, at most the largest of 64 bits.
+fn with_digit(value: u64, last: u8) -> u64 {
+    let unit = last as u64;
+    if (MOST - unit) / 10 < value {
+        return MOST;
+    }
+    value * 10 + unit
 }
 
 // The value of a decimal or hexadecimal digit, 0 for another byte.

@@ -1,14 +1,23 @@
 -- `with_without`: the least totals with a node and without it, as a buffer.
+use lib.ListN.{length}
 use borrow.Author.Needs.{needs}
+use Rattle.tree_file.specs.Checks.{sizesOf}
+use Rattle.one_site.specs.Site.{siteVerdict}
 use Rattle.kterc_c.proofs.Sites.{both-no-room, found-refused, found-written}
 use Rattle.kterc_c.proofs.with_without.Statement.{statement}
 use Rattle.kterc_c.proofs.with_without.Tie as tie
 
-no-room-for-both-requires : tie.Need-no-room-for-both-requires
-no-room-for-both-requires c κs = search needs
+check-requires : tie.Need-check-requires
+check-requires c κs = search needs
+
+no-room-after-requires : tie.Need-no-room-after-requires
+no-room-after-requires c κs = search needs
 
 returns : tie.Need-returns
-returns c = both-no-room _ _ _ _ (c .no-room-for-both .ensures) (c .before .if1 .taken)
+returns c =
+    let a = c .before .before .before .before .before .before .args in
+    let rules = siteVerdict (a .file .now) (a .node) (a .budget) (length (a .scratch .now)) in
+    both-no-room _ _ _ _ (c .no-room-after .ensures rules (sizesOf (a .file .now)) (c .before .check .ensures)) (c .before .before .if1 .taken)
 
 with-or-without-requires : tie.Need-with-or-without-requires
 with-or-without-requires c κs = search needs
@@ -68,7 +77,8 @@ pub with-without-spec : {M : Type 1} → statement M
 with-without-spec =
     tie.close
     (tie.spec
-    no-room-for-both-requires
+    check-requires
+    no-room-after-requires
     returns
     with-or-without-requires
     enum-known-found

@@ -1,34 +1,17 @@
--- `make_plan`: notes where the lines stand, fills the table in the scratch, and writes the plan from it.
+-- `make_plan`: makes the table, and writes the plan from it.
 use borrow.Author.Needs.{needs}
-use Rattle.tree_file.proofs.Accepted.{sizes-count, sizes-budget}
-use Rattle.table.proofs.Room.{table-room}
+use Rattle.tree_file.proofs.Accepted.{sizes-budget}
 use Rattle.optimum.proofs.make_plan.Statement.{statement}
 use Rattle.optimum.proofs.make_plan.Tie as tie
 
--- the start, seen from where the places were noted
-abbrev start : tie.After-note-places → tie.Start
-start c = c .before .before .before .before .before .before .before
+slice-aggregate-plan-table : tie.Need-slice-aggregate-plan-table
+slice-aggregate-plan-table c = search needs
 
-slice-aggregate-note-places : tie.Need-slice-aggregate-note-places
-slice-aggregate-note-places c = search needs
+slice-aggregate-plan-table-2 : tie.Need-slice-aggregate-plan-table-2
+slice-aggregate-plan-table-2 c = search needs
 
-slice-aggregate-note-places-2 : tie.Need-slice-aggregate-note-places-2
-slice-aggregate-note-places-2 c = search needs
-
-note-places-requires : tie.Need-note-places-requires
-note-places-requires c κs = search needs
-
-slice-aggregate-make-table : tie.Need-slice-aggregate-make-table
-slice-aggregate-make-table c = search needs
-
-slice-aggregate-make-table-2 : tie.Need-slice-aggregate-make-table-2
-slice-aggregate-make-table-2 c = search needs
-
-make-table-requires : tie.Need-make-table-requires
-make-table-requires c κs =
-    let noted = c .before .before .before .before .before in
-    let room = start noted .pre .0 in
-    (sizes-count (room .of-file), table-room (room .of-file) (room .room) (noted .note-places .ensures .1))
+plan-table-requires : tie.Need-plan-table-requires
+plan-table-requires c κs = search needs
 
 slice-aggregate-write-plan : tie.Need-slice-aggregate-write-plan
 slice-aggregate-write-plan c = search needs
@@ -38,9 +21,9 @@ slice-aggregate-write-plan-2 c = search needs
 
 write-plan-requires : tie.Need-write-plan-requires
 write-plan-requires c κs =
-    let made = c .before .before .before .before .before .before .before in
-    let st = start (made .before .before .before .before .before .before) in
-    (sizes-budget (st .pre .0 .of-file), (made .make-table .ensures .table, st .pre .1))
+    let made = c .before .before .before .before .before .before .before .before .before in
+    let given = made .before .before .before .before .before .before .before .before .pre in
+    (sizes-budget (given .0 .of-file), (made .plan-table .ensures .0, given .1))
 
 same-length : tie.Need-same-length
 same-length c = search needs
@@ -58,12 +41,9 @@ pub make-plan-spec : {M : Type 1} → statement M
 make-plan-spec =
     tie.close
     (tie.spec
-    slice-aggregate-note-places
-    slice-aggregate-note-places-2
-    note-places-requires
-    slice-aggregate-make-table
-    slice-aggregate-make-table-2
-    make-table-requires
+    slice-aggregate-plan-table
+    slice-aggregate-plan-table-2
+    plan-table-requires
     slice-aggregate-write-plan
     slice-aggregate-write-plan-2
     write-plan-requires

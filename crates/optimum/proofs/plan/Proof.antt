@@ -3,8 +3,8 @@ use mathlib.Core.Path.{sym, ap, _∙_}
 use borrow.Author.Needs.{needs}
 use Rattle.laws.proofs.Bools.{held, failed}
 use Rattle.tree_file.specs.Checks.{answerOf}
-use Rattle.lent.proofs.Asked.{lent-sizes}
-use Rattle.optimum.proofs.Answers.{plan-refused, plan-room, plan-short, plan-long, plan-written}
+use Rattle.lent.proofs.Asked.{lent-sizes, lent-room}
+use Rattle.optimum.proofs.Answers.{plan-refused, plan-short, plan-long, plan-written}
 use Rattle.optimum.proofs.plan.Statement.{statement}
 use Rattle.optimum.proofs.plan.Tie as tie
 
@@ -27,7 +27,7 @@ make-plan-requires c κs =
     let b = c .before .before .before .before in
     let a = b .before .before .before .before .before .before .before .before .before .args in
     let told = ap answerOf (sym (b .before .before .checked .given .1)) ∙ b .before .before .before .before .check .ensures in (
-      plan-room (a .file .now) (a .scratch .now) told,
+      lent-room (a .file .now) (a .scratch .now) told,
       plan-long (a .file .now) record { scratch = a .scratch .now; totals = a .totals .now; rows = a .rows .now } told (held (b .buffers-long .ensures) (c .before .before .before .if1 .left)),
     )
 

@@ -5,7 +5,7 @@ use native.Mathlib.Omega.{arith}
 use lib.ListN.{set}
 use borrow.Author.Needs.{needs}
 use Rattle.table.proofs.Server.{server-there}
-use Rattle.optimum.proofs.Budgets.{count-found, total-found, budget-row, row-found}
+use Rattle.optimum.proofs.Budgets.{count-found, total-found, budget-room, row-to-walk, row-found}
 use Rattle.optimum.proofs.write_budget.Statement.{statement}
 use Rattle.optimum.proofs.write_budget.Tie as tie
 
@@ -30,13 +30,15 @@ slice-write-totals c = omega (arith, start (c .before) .pre .0 .within, start (c
 
 mul-write-row : tie.Need-mul-write-row
 mul-write-row c =
-    let n = c .before .before in
-    omega (arith, budget-row (start n .pre .0) (n .before .server-line .ensures) (n .better-count .ensures) (start n .pre .1) .1, start n .good .1 .1 .1 .1 .1 .1 .0)
+    let st = start (c .before .before) in
+    omega (arith, budget-room (st .pre .0) (st .pre .1), st .good .1 .1 .1 .1 .1 .1 .0)
 
 write-row-requires : tie.Need-write-row-requires
 write-row-requires c κs =
     let n = c .before .before in
-    (start n .pre .0 .budget, budget-row (start n .pre .0) (n .before .server-line .ensures) (n .better-count .ensures) (start n .pre .1))
+    let r = start n .pre .0 in
+    let room = budget-room r (start n .pre .1) in
+    (r .budget, (row-to-walk (r .budget) (r .table) (r .within) (count-found r (n .before .server-line .ensures) (n .better-count .ensures)) room, room))
 
 same-length : tie.Need-same-length
 same-length c = search needs
@@ -47,14 +49,14 @@ same-length-2 c = search needs
 returns : tie.Need-returns
 returns c =
     let n = c .before .before .before .before .before in
-    let b = start n .pre .0 in
+    let r = start n .pre .0 in
     let a = start n .args in
     let line = n .before .server-line .ensures in
-    let count = n .better-count .ensures in (
-      count-found b line count,
+    let count = count-found r line (n .better-count .ensures) in (
+      count,
       (
-        ap (set (a .totals .now) (a .b)) (c .before .before .before .before .entry .ensures ∙ total-found b line count),
-        row-found b line count (a .rows .now) (a .b * a .k) (c .before .before .write-row .ensures),
+        ap (set (a .totals .now) (a .b)) (c .before .before .before .before .entry .ensures ∙ total-found r line (n .better-count .ensures)),
+        row-found (r .budget) (r .table) (r .within) count (a .rows .now) (a .b * a .k) (c .before .before .write-row .ensures),
       ),
     )
 
