@@ -1,8 +1,9 @@
-/* A host of the proved library: prints the report of a tree file of any size, or with -b what each of its nodes is worth at one
- * budget. A refusal gets its rule, its record and a sentence. */
+/* A host of the proved library: prints the report of a tree file of any size, with -b what each of its nodes is worth at one
+ * budget, or with -t the least budget for a target. A refusal gets its rule, its record and a sentence. */
 #include "host.h"
 
 #include <ctype.h>
+#include <errno.h>
 #include <stdio.h>
 #include <stdlib.h>
 #include <string.h>
@@ -40,6 +41,13 @@ void *lent(size_t entries, size_t size)
     return memory;
 }
 
+void print_nodes(const uint16_t *row, size_t k)
+{
+    for (size_t i = 0; i < k && row[i]; i++)
+        printf(" %u", row[i]);
+    putchar('\n');
+}
+
 static uint8_t *read_whole(const char *name, size_t *length)
 {
     FILE *f = fopen(name, "rb");
@@ -67,11 +75,13 @@ static uint8_t *read_whole(const char *name, size_t *length)
     return bytes;
 }
 
-/* A budget in decimal digits. One too large to be read counts as the largest number, which is above every file's. */
-static int read_budget(const char *text, size_t *budget)
+/* A number in decimal digits. `fits` says whether it is below 2^64; the largest number stands for one that is not. */
+static int read_number(const char *text, uint64_t *number, int *fits)
 {
     char *end;
-    *budget = strtoull(text, &end, 10);
+    errno = 0;
+    *number = strtoull(text, &end, 10);
+    *fits = errno != ERANGE;
     return isdigit((unsigned char)*text) && !*end;
 }
 
@@ -81,18 +91,27 @@ static int usage(const char *name)
             "usage: %s FILE\n"
             "  for each budget: budget, least total, greedy total, nodes of the optimum placement\n"
             "usage: %s -b BUDGET FILE\n"
-            "  for each node: node, least total with a cache there, least total without, what it is worth (without - with)\n",
-            name, name);
+            "  for each node: node, least total with a cache there, least total without, what it is worth (without - with)\n"
+            "usage: %s -t TARGET FILE\n"
+            "  for the least budget whose least total is no larger than TARGET, in thousandths: budget, least total, nodes of\n"
+            "  the optimum placement; or none, where the file's whole budget is not enough\n"
+            "status: 0 for an answer, also for none; 1 for a refusal; 2 for any other error, also for a TARGET of 2^64 or more\n",
+            name, name, name);
     return 2;
 }
 
 int main(int argc, char **argv)
 {
-    size_t length, budget = 0;
-    int sites = argc == 4 && !strcmp(argv[1], "-b") && read_budget(argv[2], &budget);
-    if (argc != 2 && !sites) return usage(argv[0]);
+    size_t length;
+    uint64_t number = 0;
+    int fits, asked = argc == 4 && read_number(argv[2], &number, &fits);
+    int sites = asked && !strcmp(argv[1], "-b"); /* a budget that does not fit is above every file's too */
+    int target = asked && !strcmp(argv[1], "-t") && fits;
+    if (argc != 2 && !sites && !target) return usage(argv[0]);
     uint8_t *file = read_whole(argv[argc - 1], &length);
-    uint32_t answer = sites ? print_sites(file, length, budget) : print_report(file, length);
+    uint32_t answer = sites    ? print_sites(file, length, number)
+                      : target ? print_target(file, length, number)
+                               : print_report(file, length);
     if (answer) printf("refused %u %u: %s\n", KTERC_RULE(answer), KTERC_RECORD(answer), rules[KTERC_RULE(answer)]);
     free(file);
     return answer ? 1 : 0;

@@ -10,9 +10,7 @@
 static void print_line(size_t b, uint64_t total, uint64_t greedy, const uint16_t *row, size_t k)
 {
     printf("%zu %" PRIu64 " %" PRIu64, b, total, greedy);
-    for (size_t i = 0; i < k && row[i]; i++)
-        printf(" %u", row[i]);
-    putchar('\n');
+    print_nodes(row, k);
 }
 
 uint32_t print_report(const uint8_t *file, size_t length)

@@ -1,7 +1,7 @@
 /* The proved library against the reference in C: random trees of every size in each version, trees of every shape with just the
  * words of scratch that are asked and with one less, damaged files, buffers of wrong lengths, and guard words around all that is
- * lent; and with a node and without it on full-size trees, whose files are the arguments. Stops at the first difference. Then the
- * stack that the calls take. */
+ * lent; and nodes and targets of full-size trees, whose files are the arguments. Stops at the first difference. Then the stack
+ * that the calls take. */
 #include <inttypes.h>
 #include <stdio.h>
 #include <stdlib.h>
@@ -24,6 +24,10 @@ static uint64_t seed = 20000601;
 /* Trees of the version at hand and of them those enumerated; trees at the boundary of rule 13, files, sets with a closed node,
  * nodes asked about, of them those answered for, those of few nodes and those of full-size plans, and calls, of all versions. */
 static struct { long trees, enumerated, boundary, damaged, closed, asked, answered, every_set, planned, calls, refused; } count;
+
+/* Targets asked about, of them those with a budget, those with none, those of few nodes, and those out of reach that came with an
+ * array too short. */
+static struct { long asked, found, none, every_set, short_beyond; } targets;
 
 /* The tree at hand, its file and what the reference says of it; and the same before the file was damaged. */
 static struct {
@@ -233,6 +237,64 @@ static void try_some_node(size_t words)
     try_with_without(node, b, words, vary(2));
 }
 
+/* ---- from a target to a budget */
+
+static const char *for_target(const char *what, uint64_t target)
+{
+    static char text[120];
+    snprintf(text, sizeof text, "%s for the target %" PRIu64, what, target);
+    return text;
+}
+
+/* With b entries for the budget and r for the row. The row found has as many nodes as the budget says. */
+static void try_target(uint64_t target, size_t words, size_t b, size_t r)
+{
+    size_t k = at.k;
+    uint16_t least = planner.least_budget(&at.tree, &at.plan, target);
+    struct lent scratch = lend(words, 8, &seed), budget = lend(b, 2, &seed), row = lend(r, 2, &seed);
+    uint32_t answer = kterc_target(at.file, at.length, target, (uint64_t *)scratch.memory, words, (uint16_t *)budget.memory, b,
+                                   (uint16_t *)row.memory, r);
+    uint32_t refusal = first_broken(13, words >= at.words, b >= 1 && r >= k);
+    check_that(answer == (refusal ? refusal : least > k ? KTERC_NONE : 0), for_target("the answer", target));
+    check_array(&budget, answer, &least, 2, for_target("the budget", target));
+    check_array(&row, answer, at.plan.row[answer ? 0 : least], k * 2, for_target("the row", target));
+    check_scratch(&scratch, refusal);
+    if (!answer) check_that(planned(least) == least, for_target("the number of nodes in the row", target));
+    targets.asked++, targets.found += !answer, targets.none += answer == KTERC_NONE;
+    targets.short_beyond += answer == 14 && least > k;
+}
+
+/* At a total of the plan, beside it, and far from it. One below 0 is the largest number. */
+static uint64_t some_target(void)
+{
+    uint64_t total = at.plan.total[upto(at.k)];
+    switch (upto(7)) {
+    case 0: return total - 1;
+    case 1: return total + 1;
+    case 2: return upto(1) ? 0 : UINT64_MAX;
+    case 3: return at.plan.total[at.k] - 1;
+    case 4: return upto(at.plan.total[0]);
+    default: return total;
+    }
+}
+
+static void try_some_target(size_t words)
+{
+    try_target(some_target(), words, vary(1), vary(at.k));
+}
+
+/* The scratch one word too short, then each array one entry, for a target that every budget meets and for one that none does. */
+static void try_short_for_target(void)
+{
+    uint64_t ends[] = { UINT64_MAX, at.plan.total[at.k] - 1 };
+    for (int i = 0; i < 2; i++) {
+        try_target(ends[i], at.words - 1, 1, at.k);
+        try_target(ends[i], at.words - 1, 0, 0);
+        try_target(ends[i], at.words, 0, at.k);
+        if (at.k) try_target(ends[i], at.words, 1, at.k - 1);
+    }
+}
+
 /* ---- a file */
 
 static void try_sets(void)
@@ -255,6 +317,7 @@ static void try_file(void)
     try_report(vary(at.words));
     try_sets();
     try_some_node(vary(at.words));
+    try_some_target(vary(at.words));
 }
 
 static void read_file(void)
@@ -326,11 +389,34 @@ static void enumerate_with_without(void)
         }
 }
 
+static void enumerate_target(uint64_t target)
+{
+    uint16_t row[BUDGET];
+    size_t all = planner.enumerate_least_budget(&at.tree, target, row), least = planner.least_budget(&at.tree, &at.plan, target);
+    try_target(target, at.words, 1 + upto(2), at.k + upto(2));
+    check_that(all == least, for_target("the enumeration", target));
+    if (least <= at.k) check_that(!memcmp(row, at.plan.row[least], sizeof row), for_target("the enumeration's row", target));
+    targets.every_set++;
+}
+
+/* At each total of the plan, one below and one above, and the smallest and the largest target: the library against the reference,
+ * and the reference against every set. */
+static void enumerate_targets(void)
+{
+    for (size_t b = 0; b <= at.k; b++)
+        if (b == 0 || at.plan.total[b] < at.plan.total[b - 1])
+            for (int beside = -1; beside <= 1; beside++)
+                enumerate_target(at.plan.total[b] + beside);
+    enumerate_target(0), enumerate_target(UINT64_MAX);
+    try_short_for_target();
+}
+
 /* Just the words that rule 13 asks for, one less and one more, for each call. */
 static void try_words(void)
 {
     for (size_t words = at.words - 1; words <= at.words + 1; words++)
-        try_plan(words), try_greedy(words), try_report(words), try_some_node(words);
+        try_plan(words), try_greedy(words), try_report(words), try_some_node(words), try_some_target(words);
+    try_short_for_target();
     count.boundary++;
 }
 
@@ -352,7 +438,7 @@ static void try_version(int version)
 {
     count.trees = count.enumerated = 0;
     for (int i = 0; i < SMALL; i++)
-        try_tree(version, 1 + upto(SMALL_NODES - 1)), enumerate(), enumerate_with_without();
+        try_tree(version, 1 + upto(SMALL_NODES - 1)), enumerate(), enumerate_with_without(), enumerate_targets();
     for (int n = 1; n <= NODES; n++)
         for (int i = 0; i < EACH_SIZE; i++)
             try_tree(version, n);
@@ -373,12 +459,8 @@ static void load_file(const char *name)
 }
 
 /* Each node of the plan at k, there and at some budget, and others. */
-static void try_full(const char *name)
+static void try_full_nodes(void)
 {
-    load_file(name);
-    read_file();
-    check_that(!at.code, name);
-    solve();
     for (size_t i = 0; i < planned(at.k); i++) {
         try_with_without(at.plan.row[at.k][i], at.k, at.words, 2);
         try_with_without(at.plan.row[at.k][i], upto(at.k), at.words, 2);
@@ -386,6 +468,27 @@ static void try_full(const char *name)
     }
     for (int i = 0; i < OTHERS; i++)
         try_with_without(1 + upto(at.n - 2), upto(at.k), at.words, 2);
+}
+
+/* At, one below and one above the totals of budget 0, of k and of one between; and the smallest and the largest target. */
+static void try_full_targets(void)
+{
+    size_t budgets[] = { 0, upto(at.k), at.k };
+    for (int i = 0; i < 3; i++)
+        for (int beside = -1; beside <= 1; beside++)
+            try_target(at.plan.total[budgets[i]] + beside, at.words, 1, at.k);
+    try_target(0, at.words, 1, at.k), try_target(UINT64_MAX, at.words, 1, at.k);
+    try_short_for_target();
+}
+
+static void try_full(const char *name)
+{
+    load_file(name);
+    read_file();
+    check_that(!at.code, name);
+    solve();
+    try_full_nodes();
+    try_full_targets();
 }
 
 int main(int argc, char **argv)
@@ -401,6 +504,9 @@ int main(int argc, char **argv)
            count.every_set);
     printf("%d full-size trees: %ld nodes of their plans and %d others, with each and without it\n", argc - 1, count.planned,
            OTHERS * (argc - 1));
+    printf("%ld calls from a target to a budget, %ld of them with a budget and %ld with none, %ld against every set\n",
+           targets.asked, targets.found, targets.none, targets.every_set);
+    printf("%ld targets out of reach with an array too short, refused by rule 14\n", targets.short_beyond);
     printf("%ld calls, %ld of them refused, with guards around every buffer\n", count.calls, count.refused);
     printf("none differed\n");
     return !stacks_suffice();

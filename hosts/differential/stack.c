@@ -43,7 +43,7 @@ static struct {
 
 static struct {
     uint64_t scratch[SCRATCH_WORDS], totals[BUDGET + 1], greedy_totals[BUDGET + 1], loads[NODES];
-    uint16_t rows[(BUDGET + 1) * BUDGET], greedy_nodes[BUDGET], serving[NODES];
+    uint16_t rows[(BUDGET + 1) * BUDGET], greedy_nodes[BUDGET], serving[NODES], budget;
 } memory;
 
 static void check(void) { at.answer = kterc_check(at.file, at.length); }
@@ -78,6 +78,13 @@ static void with_without(void)
     at.answer = kterc_with_without(at.file, at.length, at.node, BUDGET, memory.scratch, SCRATCH_WORDS, memory.totals, 2);
 }
 
+/* The plan's total at k, which the report call has left, needs a large budget. */
+static void target(void)
+{
+    at.answer = kterc_target(at.file, at.length, memory.totals[BUDGET], memory.scratch, SCRATCH_WORDS, &memory.budget, 1,
+                             memory.rows, BUDGET);
+}
+
 static struct { const char *name; void (*call)(void); size_t stated, most; } calls[] = {
     { "check", check, KTERC_CHECK_STACK, 0 },
     { "scratch_words", words, KTERC_SCRATCH_WORDS_STACK, 0 },
@@ -86,6 +93,7 @@ static struct { const char *name; void (*call)(void); size_t stated, most; } cal
     { "greedy", greedy, KTERC_GREEDY_STACK, 0 },
     { "report", report, KTERC_REPORT_STACK, 0 },
     { "with_without", with_without, KTERC_WITH_WITHOUT_STACK, 0 },
+    { "target", target, KTERC_TARGET_STACK, 0 },
 };
 
 enum { CALLS = sizeof calls / sizeof *calls };

@@ -342,6 +342,16 @@ static void make_with_without(struct tree *t, uint64_t *scratch, int node, int b
     totals[0] = least_total(t, scratch, node, b);
 }
 
+/* ---- from a target to a budget */
+
+static int least_budget(const struct tree *t, const struct plan *p, uint64_t target)
+{
+    int b = 0;
+    while (b <= t->k && p->total[b] > target)
+        b++;
+    return b;
+}
+
 /* ---- the greedy rule */
 
 static void make_greedy(const struct tree *t, struct greedy *g)
@@ -472,5 +482,26 @@ static void enumerate_with_without(const struct tree *t, int node, int b, uint64
     }
 }
 
+/* Of the sets within the target: fewest nodes, then the least total, then the first in the order of ties. */
+static int enumerate_least_budget(const struct tree *t, uint64_t target, uint16_t row[BUDGET])
+{
+    static struct bill bill;
+    uint16_t nodes[NODES];
+    unsigned best = 0;
+    uint64_t total = 0;
+    int fewest = t->k + 1;
+    for (unsigned set = 0; set < 1u << t->n; set += 2) {
+        int members = __builtin_popcount(set);
+        if (members > min(t->k, fewest) || !all_open(t, set)) continue;
+        make_bill(t, nodes, nodes_of(t, set, nodes), &bill);
+        if (bill.total > target) continue;
+        if (members == fewest && (bill.total > total || (bill.total == total && !ties_before(t, set, best)))) continue;
+        fewest = members, total = bill.total, best = set;
+    }
+    memset(row, 0, BUDGET * sizeof *row);
+    nodes_of(t, best, row);
+    return fewest;
+}
+
 const struct planner PLANNER = { read_tree, scratch_words, make_plan, make_greedy, make_bill, enumerate, make_with_without,
-                                 enumerate_with_without };
+                                 enumerate_with_without, least_budget, enumerate_least_budget };

@@ -81,6 +81,10 @@ struct planner {
     void (*with_without)(struct tree *t, uint64_t *scratch, int node, int b, uint64_t totals[2]);
     /* The same over every set, by the bill; for few nodes. */
     void (*enumerate_with_without)(const struct tree *t, int node, int b, uint64_t totals[2]);
+    /* The least budget whose total in the tree's plan is no larger than the target, k + 1 where each is larger. */
+    int (*least_budget)(const struct tree *t, const struct plan *p, uint64_t target);
+    /* The same over every set, by the bill, and the set's nodes, then zeros; for few nodes. */
+    int (*enumerate_least_budget)(const struct tree *t, uint64_t target, uint16_t row[BUDGET]);
 };
 
 extern const struct planner planner, planner_o2, planner_o3;
