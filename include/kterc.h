@@ -16,8 +16,8 @@
  * takes scratch asks for as many (rule 13). What they hold before a call does not matter. After an accepted call these words may
  * hold anything; the words beyond them stay.
  *
- * Answers. Node numbers and budgets in arrays are of 16 bits, totals and loads of 64 bits in thousandths; a target too is in
- * thousandths. Arrays may be longer than asked (rule 14): entries beyond those written stay.
+ * Answers. Node numbers and budgets in arrays are of 16 bits, totals and loads of 64 bits in thousandths, and so is a target.
+ * Arrays may be longer than asked (rule 14): entries beyond those written stay.
  *
  * Stack. A call needs KTERC_.._STACK bytes of its thread's stack, whatever the file. They are measured, on x86-64 and with a
  * margin of a third or more, and not proved.

@@ -104,7 +104,7 @@ int main(int argc, char **argv)
 {
     size_t length;
     uint64_t number = 0;
-    int fits, asked = argc == 4 && read_number(argv[2], &number, &fits);
+    int fits = 0, asked = argc == 4 && read_number(argv[2], &number, &fits);
     int sites = asked && !strcmp(argv[1], "-b"); /* a budget that does not fit is above every file's too */
     int target = asked && !strcmp(argv[1], "-t") && fits;
     if (argc != 2 && !sites && !target) return usage(argv[0]);

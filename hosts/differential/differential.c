@@ -283,7 +283,8 @@ static void try_some_target(size_t words)
     try_target(some_target(), words, vary(1), vary(at.k));
 }
 
-/* The scratch one word too short, then each array one entry, for a target that every budget meets and for one that none does. */
+/* The scratch one word too short, then each array one entry, for a target that every budget meets and for one that none does, if
+ * there is one. */
 static void try_short_for_target(void)
 {
     uint64_t ends[] = { UINT64_MAX, at.plan.total[at.k] - 1 };
@@ -470,7 +471,7 @@ static void try_full_nodes(void)
         try_with_without(1 + upto(at.n - 2), upto(at.k), at.words, 2);
 }
 
-/* At, one below and one above the totals of budget 0, of k and of one between; and the smallest and the largest target. */
+/* At, one below and one above the totals of budget 0, of k and of any; and the smallest and the largest target. */
 static void try_full_targets(void)
 {
     size_t budgets[] = { 0, upto(at.k), at.k };

@@ -43,7 +43,7 @@ module _ (f : ℕ → ℕ) where
             better-cases (λ i. NoLaterBy f i j) f _ _ (λ h. omega arith) (λ h. omega arith)
       ]
 
-  -- an index whose value is smaller than each one before it
+  -- an index whose value is smaller than each before it is the first with the least value
   pub first-least-self : (n : ℕ) → ((j : ℕ) → j < n → f n < f j) → firstLeast f n ≡ n
   unfolding firstLeast
   first-least-self zero smaller = refl

@@ -146,7 +146,7 @@ pub extern "C" fn kterc_report(
     code_of(report::report(file, scratch, totals, rows, greedy_totals, greedy_nodes))
 }
 
-// The answer with no room for what is written, after the rules that were checked: rule 14, which is broken.
+// The answer where there is no room for what is written: the refusal of the rules that were checked, else rule 14's.
 fn no_room_after(checked: Checked) -> Ruling
     ensures { λ r. ⌜ ((v : Verdict) (sizes : code.Tree) → answerOf checked ≡ answer v sizes → verdictOf r ≡ (v then broken 14 0)) ⌝ }
 {

@@ -60,10 +60,10 @@ module _ {file starts widths s : List ℕ} {k : ℕ} (same : k ≡ budgetOf file
       omega (arith, first .before count fewer)
 
   -- what is answered and how the row is left
-  abbrev Told : Answer Least → List ℕ → List ℕ → Type 0
-  Told a old new = (a ≡ answered (leastBudget file target)) × (new ≡ after passed (rowWritten file (leastBudget file target)) old)
+  abbrev AnsweredAndWritten : Answer Least → List ℕ → List ℕ → Type 0
+  AnsweredAndWritten a old new = (a ≡ answered (leastBudget file target)) × (new ≡ after passed (rowWritten file (leastBudget file target)) old)
 
-  pub none-told : (row : List ℕ) → k < b → Told (answered none) row row
+  pub none-told : (row : List ℕ) → k < b → AnsweredAndWritten (answered none) row row
   none-told row over = rw (least-budget-none file target (λ c h. smaller-costs-more c (omega arith))) (refl, refl)
 
   module _ (within : b ≤ k) where
@@ -81,14 +81,14 @@ module _ {file starts widths s : List ℕ} {k : ℕ} (same : k ≡ budgetOf file
         least-budget-is file target b (omega arith) (omega (arith, here)) smaller-costs-more
 
     -- the server's row can have b caches, and there is room for the row of the answer
-    pub row-ready : {rows : List ℕ} → k ≤ length rows
+    pub row-to-write : {rows : List ℕ} → k ≤ length rows
         → RowToWalk file (mayBe (treeOf file)) starts widths s (firstChild (treeOf file) 0) 0 b 0 rows × (0 + k ≤ length rows)
-    row-ready {rows} long = let room : 0 + k ≤ length rows = omega arith in (row-to-walk same table (omega arith) count-is room, room)
+    row-to-write {rows} long = let room : 0 + k ≤ length rows = omega arith in (row-to-walk same table (omega arith) count-is room, room)
 
     -- what is written there is the plan's row
     pub budget-told : (old : List ℕ) {new : List ℕ} → k ≤ length old
         → new ≡ sets old 0 (row k (bestNodes (treeOf file) (demandOf file) (mayBe (treeOf file)) (firstChild (treeOf file) 0) 0 b))
-        → Told (answered (leastIs b)) old new
+        → AnsweredAndWritten (answered (leastIs b)) old new
     budget-told old long e =
         let row-is = row-found same table (omega arith) count-is old 0 e in
         rw budget-is (refl, row-is ∙ sets-front old (planRow file b) (omega (arith, length-plan-row file b (omega arith))))

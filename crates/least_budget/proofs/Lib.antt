@@ -1,2 +1,2 @@
-pub mod Least
-pub mod Answers
+mod Least
+mod Answers

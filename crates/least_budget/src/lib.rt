@@ -39,8 +39,8 @@ fn first_no_larger(line: &[u64], k: usize, target: Total) -> usize
     b
 }
 
-// Finds the least budget in the table and writes its row. Its plan has as many caches: a plan with fewer would already have been found
-// at a smaller budget.
+// Finds the least budget in the table and writes its row. The plan there has just as many caches as the budget: one with fewer would
+// already have been found at a smaller budget.
 fn write_least(
     file: &[u8],
     k: usize,

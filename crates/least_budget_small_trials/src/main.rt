@@ -51,7 +51,7 @@ fn set_at(plans: Plans, b: usize) -> u8 {
     0
 }
 
-// Stands for no budget, and for a refusal.
+// NONE stands for no budget, REFUSED for a refusal.
 const NONE: usize = 255;
 
 const REFUSED: usize = 256;
@@ -72,7 +72,7 @@ fn least_within(plans: Plans, k: usize, target: u64) -> usize
 
 // ---- the answer
 
-fn budget_of(answer: LeastBudget) -> usize {
+fn found_budget(answer: LeastBudget) -> usize {
     match answer {
         LeastBudget::Budget(budget) => budget as usize,
         LeastBudget::None => NONE,
@@ -155,7 +155,7 @@ fn check_lent(
 ) -> Count
     requires { ⌜ k ≤ 6 ⌝ }
 {
-    let budget = budget_of(least_budget::from_target(file, Total(target), scratch, row));
+    let budget = found_budget(least_budget::from_target(file, Total(target), scratch, row));
     check_answer(i, k, plans, target, budget, row);
     with_target(so_far, budget)
 }
@@ -198,9 +198,6 @@ fn check_around(
     check_target(i, k, plans, above, file, scratch, two)
 }
 
-// The largest number of 64 bits.
-const MOST: u64 = 18_446_744_073_709_551_615;
-
 // The targets about each plan's total, and the ends. The scratch is as the call before left it.
 fn check_targets(
     i: u64,
@@ -213,7 +210,7 @@ fn check_targets(
     requires { ⌜ k ≤ 6 ⌝ }
 {
     let mut count = check_target(i, k, plans, 0, file, scratch, so_far);
-    count = check_target(i, k, plans, MOST, file, scratch, count);
+    count = check_target(i, k, plans, trial_text::MOST, file, scratch, count);
     let mut b = 0;
     while b <= k {
         count = check_around(i, k, plans, total_at(plans, b), file, scratch, count);
@@ -249,7 +246,14 @@ fn is_refused(answer: LeastBudget, rule: u8) -> bool {
 }
 
 // A refusal by this rule, which leaves the scratch and the row as they were.
-fn check_refusal(i: u64, file: &[u8], target: u64, scratch: &mut [u64], row: &mut [u16], rule: u8) {
+fn check_refusal_lent(
+    i: u64,
+    file: &[u8],
+    target: u64,
+    scratch: &mut [u64],
+    row: &mut [u16],
+    rule: u8,
+) {
     if !is_refused(
         least_budget::from_target(file, Total(target), scratch, row),
         rule,
@@ -278,7 +282,7 @@ fn check_refused(
 {
     let mut scratch = [7u64; 300];
     let mut row = [7u16; 6];
-    check_refusal(
+    check_refusal_lent(
         i,
         file,
         target,
@@ -310,7 +314,12 @@ fn check_beyond(i: u64, words: usize, k: usize, plans: Plans, file: &[u8], targe
 {
     let mut scratch = [7u64; 300];
     let mut row = [7u16; 9];
-    let budget = budget_of(least_budget::from_target(file, Total(target), &mut scratch, &mut row));
+    let budget = found_budget(least_budget::from_target(
+        file,
+        Total(target),
+        &mut scratch,
+        &mut row,
+    ));
     check_answer(i, k, plans, target, budget, &row);
     if !trial_buffers::all_from(&scratch, words, 7) {
         trial_text::print_difference(i, k, b" scratch beyond");

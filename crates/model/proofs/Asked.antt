@@ -1,4 +1,5 @@
--- What the calls with lent scratch ask, and in which order: the rules about the file, then 13, then 14.
+-- What the plan, the greedy rule, the report and the call from a target to a budget ask, and in which order: the rules about the
+-- file, then 13, then 14.
 use mathlib.Core.Path.{_≡_, refl}
 use mathlib.Core.Bool.{Bool, true, false, _&&_}
 use mathlib.Core.List.{List}
@@ -46,7 +47,7 @@ not-long : {P : Type 0} (b : Bool) → (b ≡ true → P) → (P → ⊥) → b 
 not-long true f n = absurd (n (f refl))
 not-long false f n = refl
 
--- a test of the buffers, as it stands
+-- where `Long` is the test of the buffers itself
 asked-by-test : (file scratch : List ℕ) (long : Bool)
     → AskedInOrder file scratch (long ≡ true) (fileVerdict file then askScratch file scratch then askBuffers long)
 asked-by-test file scratch long = asked-in-order file scratch long (λ h. h, λ h. h) (not-long long (λ h. h))

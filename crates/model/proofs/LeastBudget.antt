@@ -18,6 +18,9 @@ use Rattle.model.specs.Calls.{Least, none, leastIs}
 use Rattle.model.specs.LeastBudget.{firstWithin, leastBudget, AllCostMore, CheapEnough, LeastBudgetSaid}
 use Rattle.model.proofs.Plans.{plan-ranks-first, plan-least}
 
+never-rise : (t : Tree) (d : Demand) (b c : ℕ) → b ≤ c → planTotal t d c ≤ planTotal t d b
+never-rise t d b c h = let p = plan-ranks-first t d b in plan-least t d c (plan t d b) (p .isASet) (omega (arith, p .within))
+
 module _ (t : Tree) (d : Demand) (target : ℕ) where
   -- ---- the first budget of a range
 
@@ -64,9 +67,6 @@ module _ (t : Tree) (d : Demand) (target : ℕ) where
       ]
 
   -- ---- plan totals and all sets
-
-  never-rise : (b c : ℕ) → b ≤ c → planTotal t d c ≤ planTotal t d b
-  never-rise b c h = let p = plan-ranks-first t d b in plan-least t d c (plan t d b) (p .isASet) (omega (arith, p .within))
 
   -- every set of at most b nodes costs more than the target just where the plan does
   all-cost-more : (b : ℕ) → target < planTotal t d b → AllCostMore t d target b
@@ -137,5 +137,5 @@ module _ (file : List ℕ) (target : ℕ) where
       λ h. least-budget-none (λ c w. plan-costs-more t d target (budgetOf file) c h w),
     );
     allUsed = λ b e. all-used e;
-    neverRise = never-rise t d target;
+    neverRise = never-rise t d;
   }

@@ -1,5 +1,5 @@
--- Laws of the calls, proved for every file (`calls-lawful` in proofs/CallLaws): the ranking and its winner, questions 12 and 16, a host's
--- codes and how it is told none, the least budget for a target, the buffers that question 14 asks for, the scratch after a call, that
+-- Laws of the calls, proved for every file (`calls-lawful` in proofs/CallLaws): the ranking and its winner, questions 12 and 16, in which
+-- order calls ask, a host's codes and how it is told none, the least budget for a target, the buffers that question 14 asks for, the scratch after a call, that
 -- demand 3 is met and leaves no choice, and printed numbers.
 -- Numbers are written out here, so that a wrong constant breaks a law.
 use mathlib.Core.Path.{_≡_}

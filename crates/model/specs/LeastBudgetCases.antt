@@ -88,15 +88,13 @@ pub record LeastBudgetCases : Type 0 where
       → (a ≡ answered (leastIs 1)) × (memory′ .row ≡ 1 ∷ 7 ∷ [])
   pub settledThird : {a : Answer Least} {memory′ : LeastBudgetMemory} → LeastBudgetCall thirdA 80000 (leastBudgetMemory 35 2) a memory′
       → (a ≡ answered (leastIs 1)) × (memory′ .row ≡ 2 ∷ 0 ∷ [])
+  -- what a host is told, and finds in the budget's entry and in the row
+  pub hostSettled : {code : ℕ} {memory′ : HostLeastBudgetMemory} → HostLeastBudgetCall fileA 60000 (hostLeastBudgetMemory 36 2 3) code memory′
+      → (code ≡ 0) × (drop 35 (memory′ .scratch) ≡ 7 ∷ []) × (memory′ .budget ≡ 1 ∷ 7 ∷ []) × (memory′ .row ≡ 1 ∷ 0 ∷ 7 ∷ [])
   pub hostSettledZeros : {code : ℕ} {memory′ : HostLeastBudgetMemory} → HostLeastBudgetCall (budgetA 0x04) 20000 (hostLeastBudgetMemory 37 2 5) code memory′
       → (code ≡ 0) × (memory′ .budget ≡ 2 ∷ 7 ∷ []) × (memory′ .row ≡ 2 ∷ 3 ∷ 0 ∷ 0 ∷ 7 ∷ [])
   pub hostSettledEmpty : {code : ℕ} {memory′ : HostLeastBudgetMemory} → HostLeastBudgetCall fileA 140000 (hostLeastBudgetMemory 35 2 3) code memory′
       → (code ≡ 0) × (memory′ .budget ≡ 0 ∷ 7 ∷ []) × (memory′ .row ≡ 0 ∷ 0 ∷ 7 ∷ [])
-  -- "for the C host too"
-  pub hostSeventeen : {code : ℕ} {memory memory′ : HostLeastBudgetMemory} → HostLeastBudgetCall tooMuch 0 memory code memory′ → code ≡ 273
-  pub hostTwentyFour : {code : ℕ} {memory memory′ : HostLeastBudgetMemory} → HostLeastBudgetCall (lastByte 0x02) 0 memory code memory′ → code ≡ 280
-  pub hostSettled : {code : ℕ} {memory′ : HostLeastBudgetMemory} → HostLeastBudgetCall fileA 60000 (hostLeastBudgetMemory 36 2 3) code memory′
-      → (code ≡ 0) × (drop 35 (memory′ .scratch) ≡ 7 ∷ []) × (memory′ .budget ≡ 1 ∷ 7 ∷ []) × (memory′ .row ≡ 1 ∷ 0 ∷ 7 ∷ [])
   pub hostSettledNone : {code : ℕ} {memory′ : HostLeastBudgetMemory} → HostLeastBudgetCall fileA 19999 (hostLeastBudgetMemory 36 2 3) code memory′
       → (code ≡ 255) × (drop 35 (memory′ .scratch) ≡ 7 ∷ []) × (memory′ .budget ≡ 7 ∷ 7 ∷ []) × (memory′ .row ≡ 7 ∷ 7 ∷ 7 ∷ [])
   pub hostSettledShort : {code : ℕ} {memory′ : HostLeastBudgetMemory} → HostLeastBudgetCall fileA 19999 (hostLeastBudgetMemory 35 1 1) code memory′
@@ -104,3 +102,6 @@ pub record LeastBudgetCases : Type 0 where
   -- record 1, rule 9
   pub hostSettledRefused : {code : ℕ} {memory memory′ : HostLeastBudgetMemory} → HostLeastBudgetCall tooLong 0 memory code memory′
       → (code ≡ 265) × (memory′ .scratch ≡ memory .scratch) × (memory′ .budget ≡ memory .budget) × (memory′ .row ≡ memory .row)
+  -- "for the C host too"
+  pub hostSeventeen : {code : ℕ} {memory memory′ : HostLeastBudgetMemory} → HostLeastBudgetCall tooMuch 0 memory code memory′ → code ≡ 273
+  pub hostTwentyFour : {code : ℕ} {memory memory′ : HostLeastBudgetMemory} → HostLeastBudgetCall (lastByte 0x02) 0 memory code memory′ → code ≡ 280

@@ -62,7 +62,7 @@ pub fn word(line: &[u8], k: usize) -> &[u8] {
 }
 
 // The largest number of 64 bits.
-const MOST: u64 = 18_446_744_073_709_551_615;
+pub const MOST: u64 = 18_446_744_073_709_551_615;
 
 // The number that decimal digits say, and the largest of 64 bits for every number above it.
 pub fn number(digits: &[u8]) -> u64 {

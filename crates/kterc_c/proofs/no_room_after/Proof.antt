@@ -1,4 +1,4 @@
--- `no_room_after`: the answer with no room for what is written, after the rules that were checked.
+-- `no_room_after`: the answer where there is no room for what is written.
 use mathlib.Core.Path.{sym, ap, _∙_}
 use borrow.Author.Needs.{needs}
 use Rattle.tree_file.specs.Checks.{answerOf}

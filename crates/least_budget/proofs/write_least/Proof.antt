@@ -6,7 +6,7 @@ use borrow.Author.Needs.{needs}
 use Rattle.model.specs.File.{mostBudget}
 use Rattle.model.proofs.Accepted.{accepted-header}
 use Rattle.table.proofs.Server.{server-there}
-use Rattle.least_budget.proofs.Least.{none-told, row-ready, budget-told}
+use Rattle.least_budget.proofs.Least.{none-told, row-to-write, budget-told}
 use Rattle.least_budget.proofs.write_least.Statement.{statement}
 use Rattle.least_budget.proofs.write_least.Tie as tie
 
@@ -39,7 +39,7 @@ write-row-requires c κs =
     let found = c .before .before in
     let line = found .before in
     let st = start line in
-    (st .pre .0, row-ready (st .pre .0) (st .pre .1 .0) (line .server-line .ensures) (found .first-no-larger .ensures) (c .before .if1 .left) (long st))
+    (st .pre .0, row-to-write (st .pre .0) (st .pre .1 .0) (line .server-line .ensures) (found .first-no-larger .ensures) (c .before .if1 .left) (long st))
 
 cast-t14 : tie.Need-cast-t14
 cast-t14 c = omega (arith, c .before .before .before .before .if1 .left, few (start (c .before .before .before .before .before .before)))
