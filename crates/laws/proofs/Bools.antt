@@ -51,6 +51,11 @@ below-held {r} {x} {m} e h = le-leb m x (omega arith)
 pub below-failed : {r x m : ℕ} → r ≡ x → r < m → leb m x ≡ false
 below-failed {r} {x} {m} e h = lt-leb m x (omega arith)
 
+-- a test of what does not hold
+pub cannot-hold : {P : Type 0} (b : Bool) → (b ≡ true → P) → (P → ⊥) → b ≡ false
+cannot-hold true f n = absurd (n (f refl))
+cannot-hold false f n = refl
+
 pub both : (a b : Bool) → (a && b) ≡ true → (a ≡ true) × (b ≡ true)
 both true b e = (refl, e)
 both false b e = absurd (false≢true e)

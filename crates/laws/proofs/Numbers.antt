@@ -19,6 +19,13 @@ products-same f a b = (
 -- ---- rows of w entries, one after the other
 
 -- a row ends where a later one begins or before
+-- what holds of each number below b, and of b
+pub below-next : (P : ℕ → Type 0) (b : ℕ) → ((j : ℕ) → j < b → P j) → P b → (j : ℕ) → j < b + 1 → P j
+below-next P b before here j h = elim (decLt j b) [
+  | yes earlier ↦ before j earlier
+  | no last ↦ let same : b ≡ j = omega arith in rw same at here
+]
+
 pub row-before : {i j : ℕ} (w : ℕ) → i < j → i * w + w ≤ j * w
 row-before {i} {j} w h = rw suc-mul at (mul-le-mul-right w h)
 

@@ -2,7 +2,6 @@
 use mathlib.Core.Path.{_≡_, refl, sym, _∙_}
 use mathlib.Core.List.{List}
 use Prim.Native.Nat.{ℕ, _+_, _≤_, _<_}
-use native.Mathlib.Decide.{decLt}
 use native.Mathlib.Omega.{arith}
 use lib.ListN.{length}
 use lib.Seq.{sets}
@@ -26,15 +25,6 @@ use Rattle.table.proofs.Server.{server-line}
 use Rattle.optimum.specs.Walk.{RowToWalk}
 use Rattle.optimum.proofs.Budgets.{least-count-within, row-to-walk, row-found}
 use Rattle.least_budget.specs.Entries.{FirstNoLarger}
-
--- ---- the loop over a line's entries
-
--- where the entries before b and entry b are larger than the target, so are those before b + 1
-pub larger-next : (f : ℕ → ℕ) (target b : ℕ) → ((j : ℕ) → j < b → target < f j) → target < f b → (j : ℕ) → j < b + 1 → target < f j
-larger-next f target b before here j h = elim (decLt j b) [
-  | yes earlier ↦ before j earlier
-  | no last ↦ let same : b ≡ j = omega arith in rw same at here
-]
 
 -- ---- the least budget
 

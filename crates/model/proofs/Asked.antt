@@ -1,13 +1,13 @@
 -- What the plan, the greedy rule, the report and the call from a target to a budget ask, and in which order: the rules about the
 -- file, then 13, then 14.
 use mathlib.Core.Path.{_≡_, refl}
-use mathlib.Core.Bool.{Bool, true, false, _&&_}
+use mathlib.Core.Bool.{Bool, true, _&&_}
 use mathlib.Core.List.{List}
 use mathlib.Core.Logic.{_↔_}
 use Prim.Native.Nat.{ℕ, _≤_}
 use lib.ListN.{length}
 use borrow.Author.Tests.{leb-true, le-leb, lt-leb}
-use Rattle.laws.proofs.Bools.{both}
+use Rattle.laws.proofs.Bools.{both, cannot-hold}
 use Rattle.model.specs.File.{budgetOf}
 use Rattle.model.specs.Rules.{passed, _then_, fileVerdict, scratchWords, askScratch, longEnough, askBuffers}
 use Rattle.model.specs.Calls.{planBuffersLong, PlanMemory, planVerdict, greedyBuffersLong, GreedyMemory, greedyVerdict}
@@ -29,28 +29,24 @@ lent-passes file scratch long = (
 )
 
 -- the first "no" of them
-asked-in-order : {Long : Type 0} (file scratch : List ℕ) (long : Bool) → (long ≡ true ↔ Long) → ((Long → ⊥) → long ≡ false)
+asked-in-order : {Long : Type 0} (file scratch : List ℕ) (long : Bool) → (long ≡ true ↔ Long)
     → AskedInOrder file scratch Long (fileVerdict file then askScratch file scratch then askBuffers long)
-asked-in-order file scratch long said unsaid =
+asked-in-order file scratch long said =
     let asked = lent-passes file scratch long in
     record {
       fileFirst = λ q i e. rw e refl;
       scratchNext = λ e s. rw (e, lt-leb (scratchWords file) (length scratch) s) refl;
-      buffersLast = λ e s n. rw (e, le-leb (scratchWords file) (length scratch) s, unsaid n) refl;
+      buffersLast = λ e s n. rw (e, le-leb (scratchWords file) (length scratch) s, cannot-hold long (said .0) n) refl;
       passes = (
         λ h. let p = asked .0 h in (p .0, p .1, said .0 (p .2)),
         λ h. asked .1 (h .0, h .1, said .1 (h .2)),
       );
     }
 
-not-long : {P : Type 0} (b : Bool) → (b ≡ true → P) → (P → ⊥) → b ≡ false
-not-long true f n = absurd (n (f refl))
-not-long false f n = refl
-
 -- where `Long` is the test of the buffers itself
 asked-by-test : (file scratch : List ℕ) (long : Bool)
     → AskedInOrder file scratch (long ≡ true) (fileVerdict file then askScratch file scratch then askBuffers long)
-asked-by-test file scratch long = asked-in-order file scratch long (λ h. h, λ h. h) (not-long long (λ h. h))
+asked-by-test file scratch long = asked-in-order file scratch long (λ h. h, λ h. h)
 
 -- ---- the calls
 
@@ -74,7 +70,7 @@ module _ (file : List ℕ) where
   unfolding leastBudgetVerdict
   least-budget-asked memory =
       let rows = longEnough (budgetOf file) (memory .row) in
-      asked-in-order file (memory .scratch) rows (leb-true _ _, le-leb _ _) (not-long rows (leb-true _ _))
+      asked-in-order file (memory .scratch) rows (leb-true _ _, le-leb _ _)
 
   pub host-least-budget-asked : (memory : HostLeastBudgetMemory)
       → AskedInOrder file (memory .scratch) ((1 ≤ length (memory .budget)) × (budgetOf file ≤ length (memory .row))) (hostLeastBudgetVerdict file memory)
@@ -86,4 +82,3 @@ module _ (file : List ℕ) where
       λ h. let p = both one rows h in (leb-true _ _ (p .0), leb-true _ _ (p .1)) in
       asked-in-order file (memory .scratch) (one && rows)
       (said, λ h. rw (le-leb 1 (length (memory .budget)) (h .0), le-leb (budgetOf file) (length (memory .row)) (h .1)) refl)
-      (not-long (one && rows) said)

@@ -2,8 +2,8 @@
 use Prim.Native.Nat.{ℕ, _+_, _-_, _≤_, _<_}
 use native.Mathlib.Omega.{arith}
 use borrow.Author.Needs.{needs}
+use Rattle.laws.proofs.Numbers.{below-next}
 use Rattle.lines.specs.Line.{entryOf}
-use Rattle.least_budget.proofs.Least.{larger-next}
 use Rattle.least_budget.proofs.first_no_larger.Statement.{statement}
 use Rattle.least_budget.proofs.first_no_larger.Tie as tie
 
@@ -34,8 +34,11 @@ loop-less c = omega arith
 loop-again : tie.Need-loop-again Inv-loop μ-loop
 loop-again c =
     let read = c .before .before .before in
-    let l = read .before .before .loop in
-    (omega arith, larger-next _ _ _ (l .inv .1) (omega (arith, read .entry .ensures, c .if1 .left)))
+    let l = read .before .before in
+    let a = l .before .before .args in (
+      omega arith,
+      below-next (λ j. a .target .0 < entryOf (a .line .now) j) _ (l .loop .inv .1) (omega (arith, read .entry .ensures, c .if1 .left)),
+    )
 
 returns-2 : tie.Need-returns-2 Inv-loop μ-loop
 returns-2 c = let l = c .before .loop in record { bound = l .inv .0; before = l .inv .1; here = λ h. absurd (omega arith) }
