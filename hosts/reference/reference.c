@@ -255,7 +255,7 @@ static inline __attribute__((always_inline)) uint16_t *walk(const struct tree *t
         for (; here > 0; here--) {
             uint64_t without = capped(plain, entry(t, table, first, a, here, fill));
             uint64_t with = capped(cached, entry(t, table, first, t->depth[v], here - 1, fill));
-            member = with <= without;
+            member = with < without;
             if ((member ? with : without) + entry(t, table, next, a, m - here, fill) == least) break;
         }
         if (here && member) {
@@ -424,7 +424,8 @@ static int members_below(const struct tree *t, unsigned set, int v)
     return count;
 }
 
-/* Of two sets with equal totals: fewest nodes, then at nodes 1, 2, .. more members at or below, then the node itself. */
+/* Of two sets with equal totals: fewest nodes, then at nodes 1, 2, .. more members at or below, then the set without the node
+ * itself. */
 static int ties_before(const struct tree *t, unsigned a, unsigned b)
 {
     int more = __builtin_popcount(a) - __builtin_popcount(b);
@@ -432,7 +433,7 @@ static int ties_before(const struct tree *t, unsigned a, unsigned b)
     for (int v = 1; v < t->n; v++) {
         int below = members_below(t, a, v) - members_below(t, b, v), own = (a >> v & 1) - (b >> v & 1);
         if (below) return below > 0;
-        if (own) return own > 0;
+        if (own) return own < 0;
     }
     return 0;
 }

@@ -9,7 +9,7 @@ use Rattle.laws.specs.Lists.{has}
 use Rattle.model.specs.File.{Tree}
 use Rattle.model.specs.Tree.{sites}
 use Rattle.model.specs.Rules.{ascends}
-use Rattle.model.specs.Ties.{havingFirst, visits}
+use Rattle.model.specs.Ties.{lackingFirst, visits}
 use Rattle.model.specs.Preorder.{Preorder}
 use Rattle.model.proofs.Order.{smaller-said}
 use Rattle.best_rows.specs.Rows.{rowNodes, choiceOf, favour, Before}
@@ -20,11 +20,11 @@ use Rattle.best_rows.proofs.Cover.{server-row-whole}
 use Rattle.best_rows.proofs.Below.{members-is-row-count}
 
 -- where a set comes first that is not favoured at the node, both or neither have it and the rest decides
-having-alike : (x y rest : Bool) → havingFirst x y rest ≡ true → favour prefer x ≤ favour prefer y → (y ≡ x) × (rest ≡ true)
-having-alike true true rest e h = (refl, e)
-having-alike true false rest e h = absurd (omega arith)
-having-alike false true rest e h = absurd (false≢true e)
-having-alike false false rest e h = (refl, e)
+lacking-alike : (x y rest : Bool) → lackingFirst x y rest ≡ true → favour prefer x ≤ favour prefer y → (y ≡ x) × (rest ≡ true)
+lacking-alike true true rest e h = (refl, e)
+lacking-alike true false rest e h = absurd (false≢true e)
+lacking-alike false true rest e h = absurd (omega arith)
+lacking-alike false false rest e h = (refl, e)
 
 module _ (t : Tree) (pre : Preorder t) (k l : List ℕ) (g : ascends 0 (t .count) k ≡ true) (h : ascends 0 (t .count) l ≡ true) where
   -- where k comes before l on a row, or is like l there and so is the rest, l is not before k on its nodes and the rest
@@ -41,7 +41,7 @@ module _ (t : Tree) (pre : Preorder t) (k l : List ℕ) (g : ascends 0 (t .count
       ⊎-elim (λ more. omega (arith, before-l .0))
       (λ same.
       let tie = before-l .1 (omega arith) in
-      let alike = having-alike (has l (suc i)) (has k (suc i)) _ (same .1) (tie .0) in
+      let alike = lacking-alike (has l (suc i)) (has k (suc i)) _ (same .1) (tie .0) in
       row-not-preceded m (suc i) (suc i) (omega arith) _ (rowNodes (rowAfter t m (suc i) p) vs)
       (row-not-preceded m (suc i) p (omega arith) rest vs never) (alike .1) (tie .1 (alike .0)))
       (smaller-said .0 before-k))

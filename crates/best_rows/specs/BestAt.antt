@@ -1,6 +1,6 @@
 -- The dynamic program for the costs of the model: the least cost of a row of a tree and its caches, by the row's first node, the
 -- serving node above it and the number of caches.
-use mathlib.Core.Bool.{Bool, true, cond}
+use mathlib.Core.Bool.{Bool, false, cond}
 use mathlib.Core.List.{List}
 use Prim.Native.Nat.{ℕ}
 use Rattle.model.specs.File.{Tree, Demand}
@@ -15,9 +15,9 @@ use Rattle.best_rows.specs.TreeRows.{firstChild, nextSibling, rowAt}
 abbrev pub one : ℕ → Bool → ℕ
 one v u = cond u 1 0
 
--- "that being equal, the set that has the node itself"
+-- of two choices that cost the same the node is no cache: "the set that lacks the node itself now comes first"
 abbrev pub prefer : Bool
-prefer = true
+prefer = false
 
 -- the context is the serving node above; a cache serves itself and what is below it
 abbrev pub site : Tree → Demand → ℕ → Site ℕ

@@ -14,13 +14,13 @@ use Rattle.laws.proofs.Counts.{bit-le}
 use Rattle.model.specs.File.{Tree, Demand, treeOf, demandOf, countOf, mostNodes}
 use Rattle.model.specs.Rules.{ascends}
 use Rattle.model.specs.Bill.{total}
-use Rattle.model.specs.Ties.{smallerFirst, havingFirst, members, visits, tiesBefore, ranksBefore}
+use Rattle.model.specs.Ties.{smallerFirst, lackingFirst, members, visits, tiesBefore, ranksBefore}
 use Rattle.model.specs.Accepted.{Sound}
 use Rattle.model.proofs.Ascending.{set-ascends}
 use Rattle.placement.proofs.Members.{set-size, cursor-bound, cursor-begins, cursor-turns}
 use Rattle.compare.specs.Counting.{Comparable, VisitedTo}
 
--- ---- the smaller number first, and the set that has the node
+-- ---- the smaller number first, and the set that lacks the node
 
 smaller-less : (a b : ℕ) (rest : Bool) → a < b → smallerFirst a b rest ≡ true
 unfolding smallerFirst
@@ -34,11 +34,11 @@ smaller-equal : (a b : ℕ) (rest : Bool) → a ≡ b → smallerFirst a b rest 
 unfolding smallerFirst
 smaller-equal a b rest e = rw (le-ltb a b (omega arith), eq-eqb a b e)
 
-having-differ : (x y rest : Bool) → (x ≡ y → ⊥) → havingFirst x y rest ≡ x
-having-differ true true rest d = absurd (d refl)
-having-differ true false rest d = refl
-having-differ false true rest d = refl
-having-differ false false rest d = absurd (d refl)
+lacking-differ : (x y rest : Bool) → (x ≡ y → ⊥) → lackingFirst x y rest ≡ y
+lacking-differ true true rest d = absurd (d refl)
+lacking-differ true false rest d = refl
+lacking-differ false true rest d = refl
+lacking-differ false false rest d = absurd (d refl)
 
 -- ---- totals and sizes
 
@@ -75,7 +75,7 @@ module _ (t : Tree) (k l : List ℕ) (v n : ℕ) where
 
   module _ (h : v < n) where
     at-node : visits t k l (range v (n - v))
-        ≡ smallerFirst (members t l v) (members t k v) (havingFirst (has k v) (has l v) (visits t k l (range (v + 1) (n - (v + 1)))))
+        ≡ smallerFirst (members t l v) (members t k v) (lackingFirst (has k v) (has l v) (visits t k l (range (v + 1) (n - (v + 1)))))
     unfolding visits
     at-node = rw (range-first v n h)
 
@@ -86,15 +86,15 @@ module _ (t : Tree) (k l : List ℕ) (v n : ℕ) where
     visits-behind fewer = at-node ∙ smaller-more _ _ _ fewer
 
     module _ (e : members t l v ≡ members t k v) where
-      -- one of K and L has v: K comes before L if it is K
-      visits-differ : (has k v ≡ has l v → ⊥) → visits t k l (range v (n - v)) ≡ has k v
-      visits-differ d = at-node ∙ smaller-equal _ _ _ e ∙ having-differ (has k v) (has l v) (visits t k l (range (v + 1) (n - (v + 1)))) d
+      -- one of K and L has v: K comes before L if L has it
+      visits-differ : (has k v ≡ has l v → ⊥) → visits t k l (range v (n - v)) ≡ has l v
+      visits-differ d = at-node ∙ smaller-equal _ _ _ e ∙ lacking-differ (has k v) (has l v) (visits t k l (range (v + 1) (n - (v + 1)))) d
 
       -- K and L are alike at v: the visit goes on
       visits-alike : has k v ≡ has l v → visits t k l (range v (n - v)) ≡ visits t k l (range (v + 1) (n - (v + 1)))
       visits-alike p =
           let rest = visits t k l (range (v + 1) (n - (v + 1))) in
-          at-node ∙ smaller-equal _ _ _ e ∙ rw p (by-test (λ b. havingFirst b b rest ≡ rest) (has l v) (λ _. refl) (λ _. refl))
+          at-node ∙ smaller-equal _ _ _ e ∙ rw p (by-test (λ b. lackingFirst b b rest ≡ rest) (has l v) (λ _. refl) (λ _. refl))
 
 -- ---- the visit over a file, as a loop keeps it
 
@@ -151,8 +151,8 @@ module _ {file k l counts others : List ℕ} (given : Comparable file k l counts
         equal : members t l v ≡ members t k v
         equal = omega (arith, mine, theirs)
 
-        pub visit-differs : not (Bool·beq a b) ≡ true → a ≡ visits t k l (range 1 (n - 1))
-        visit-differs d = has-first ∙ sym (so-far .undecided ∙ visits-differ t k l v n more equal (λ e. differ a b d (has-first ∙ e ∙ sym has-second)))
+        pub visit-differs : not (Bool·beq a b) ≡ true → b ≡ visits t k l (range 1 (n - 1))
+        visit-differs d = has-second ∙ sym (so-far .undecided ∙ visits-differ t k l v n more equal (λ e. differ a b d (has-first ∙ e ∙ sym has-second)))
 
         pub visit-turns : not (Bool·beq a b) ≡ false → VisitedTo file k l (v + 1) (cursor + boolByte a) (other + boolByte b)
         visit-turns e = record {

@@ -48,7 +48,7 @@ fn count_members(file: &[u8], set: &[u16], counts: &mut [u16])
 // ---- the order of ties
 
 // Does the first set come before the second where nodes 1, 2, .. are visited? More members at or below come first, then
-// the node itself.
+// the set without the node itself.
 fn visited_before(
     file: &[u8],
     first: &[u16],
@@ -73,7 +73,7 @@ fn visited_before(
         let mine = placement::has_at(first, n, v, cursor);
         let theirs = placement::has_at(second, n, v, other);
         if mine != theirs {
-            return mine;
+            return theirs;
         }
         cursor += mine as usize;
         other += theirs as usize;

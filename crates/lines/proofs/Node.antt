@@ -1,6 +1,6 @@
 -- Laws of a node's line: what the node costs as a cache and without, where its caches do not fit, and each entry of its line.
 use mathlib.Core.Path.{_≡_, refl, _∙_}
-use mathlib.Core.Bool.{Bool, true, false, cond, not}
+use mathlib.Core.Bool.{Bool, true, false, cond}
 use mathlib.Core.List.{List}
 use Prim.Native.Nat.{ℕ, zero, suc, _+_, _-_, _≤_, _<_, min}
 use native.Mathlib.Nat.{sub-zero}
@@ -29,7 +29,7 @@ module _ (cached uncached : List ℕ) (member other n : ℕ) where
   pub node-is-lesser : lineNode cached uncached member other n
       ≡ min (lineCostIf cached uncached member other n true) (lineCostIf cached uncached member other n false)
   unfolding lineNode nodeBest ownChoice
-  node-is-lesser = better-min (lineCostIf cached uncached member other n) true false
+  node-is-lesser = omega (arith, better-min (lineCostIf cached uncached member other n) false true)
 
   pub node-within : NodeParts cached uncached member other → lineNode cached uncached member other n ≤ cap + cap
   node-within parts = omega (arith, node-is-lesser, cost-other, parts .uncached-line .within n, parts .pays .1)
@@ -64,13 +64,13 @@ module _ (cached uncached : List ℕ) (member other n : ℕ) where
     own-last h k is =
         omega (arith, own-with-caches h, entry-inside cached (n - 1) (omega arith), entry-past uncached n (omega (arith, parts .alike)))
 
-  -- the node is a cache unless it costs less without
-  pub takes-unless-less : {with without : ℕ} {less : Bool} → with ≡ lineCostIf cached uncached member other n true
-      → without ≡ lineCostIf cached uncached member other n false → less ≡ ltb without with → not less ≡ lineTakes cached uncached member other n
+  -- the node is a cache if that costs less
+  pub takes-if-less : {with without : ℕ} {less : Bool} → with ≡ lineCostIf cached uncached member other n true
+      → without ≡ lineCostIf cached uncached member other n false → less ≡ ltb with without → less ≡ lineTakes cached uncached member other n
   unfolding lineTakes ownChoice better
-  takes-unless-less hw ho hl =
-      let less = ltb (lineCostIf cached uncached member other n false) (lineCostIf cached uncached member other n true) in
-      rw (hl, hw, ho) (by-test (λ b. not b ≡ cond b false true) less (λ _. refl) (λ _. refl))
+  takes-if-less hw ho hl =
+      let less = ltb (lineCostIf cached uncached member other n true) (lineCostIf cached uncached member other n false) in
+      rw (hl, hw, ho) (by-test (λ b. b ≡ cond b true false) less (λ _. refl) (λ _. refl))
 
 -- ---- the empty row
 

@@ -60,13 +60,13 @@ fn node_best(cached: &[u64], uncached: &[u64], member: Total, other: Total, n: u
     costs.member.lesser(costs.other)
 }
 
-// Whether the node itself is one of the n caches: it is, unless it costs less without.
+// Whether the node itself is one of the n caches: it is, if that costs less than leaving it out.
 pub fn takes(cached: &[u64], uncached: &[u64], member: Total, other: Total, n: usize) -> bool
     requires { ⌜ NodeParts (now cached) (now uncached) (member .0) (other .0) ⌝ }
     ensures { λ r. ⌜ r ≡ lineTakes (now (cached .entry)) (now (uncached .entry)) (member .0) (other .0) n ⌝ }
 {
     let costs = node_costs(cached, uncached, member, other, n);
-    !costs.other.is_less(costs.member)
+    costs.member.is_less(costs.other)
 }
 
 fn lesser(a: usize, b: usize) -> usize

@@ -59,7 +59,7 @@ module _ (t : Tree) (pre : Preorder t) where
             rw (before-not-below v p far, lt-leb v p far, and-false)
       ]
 
-  rest-of-route : (p v w : ℕ) → atOrBelow t p w ≡ true → atOrBelow t v p ≡ (atOrBelow t v w && leb v p)
+  pub rest-of-route : (p v w : ℕ) → atOrBelow t p w ≡ true → atOrBelow t v p ≡ (atOrBelow t v w && leb v p)
   rest-of-route p v =
       by-route t pre (λ w. atOrBelow t p w ≡ true → atOrBelow t v p ≡ (atOrBelow t v w && leb v p))
       (λ h. let e : p ≡ 0 = omega (arith, below-after p 0 h) in rw e (rest-of-own 0 v))

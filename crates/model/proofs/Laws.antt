@@ -19,8 +19,9 @@ use Rattle.model.proofs.Bounds.{total-bound}
 use Rattle.model.proofs.Words.{row-said}
 use Rattle.model.proofs.Ascending.{set-said, set-ascends}
 use Rattle.model.proofs.Sets.{all-sets}
-use Rattle.model.proofs.Order.{rank-irreflexive, rank-transitive, rank-total, ties-said}
+use Rattle.model.proofs.Order.{rank-said, rank-irreflexive, rank-transitive, rank-total, ties-said}
 use Rattle.model.proofs.Plans.{plan-ranks-first, only-plan}
+use Rattle.model.proofs.Lower.{lower-first, plan-lowest}
 use Rattle.model.proofs.WithNode.{has-with-node}
 use Rattle.model.proofs.GreedyRuns.{greedy-runs, greedy-prefix, only-greedy, greedy-is-set, greedy-within, greedy-no-less, greedy-set-has}
 
@@ -39,6 +40,7 @@ lawful file fits =
       loadsAddUp = λ k. links-total t d pre k (ok .server) (ok .part);
       setSaid = set-said t;
       allSetsExact = all-sets t;
+      rankSaid = rank-said t d;
       rankIrreflexive = rank-irreflexive t d;
       rankTransitive = rank-transitive t d;
       rankTotal = λ k l g h. rank-total t d k l (set-ascends t k g) (set-ascends t l h);
@@ -51,6 +53,8 @@ lawful file fits =
       greedyWithin = greedy-within t d;
       greedyNoLess = greedy-no-less t d;
       tiesSaid = ties-said t;
+      lowerFirst = lower-first t pre;
+      planLowest = λ b k u v lower. plan-lowest t pre k u v lower d b;
       withNodeHas = has-with-node;
       greedySaid = greedy-runs t d;
       greedyPrefix = greedy-prefix t d;

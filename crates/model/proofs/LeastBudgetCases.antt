@@ -34,6 +34,7 @@ least-budget-cases = record {
   threeOfThirtyTwo = refl;
   serverAlone = refl;
   zeroLength = refl;
+  lowerInRow = refl;
   largestBelow = refl;
   sevenths = refl;
   seventhsNone = refl;

@@ -19,6 +19,7 @@ pub mod Plans
 pub mod WithOrWithout
 pub mod LeastBudget
 pub mod WithNode
+pub mod Lower
 pub mod GreedySteps
 pub mod GreedyRuns
 pub mod Written

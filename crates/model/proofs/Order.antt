@@ -16,7 +16,8 @@ use Rattle.laws.proofs.Lists.{has-cases, has-none, in-range}
 use Rattle.model.specs.File.{Tree, Demand}
 use Rattle.model.specs.Tree.{sites, atOrBelow}
 use Rattle.model.specs.Rules.{ascends}
-use Rattle.model.specs.Ties.{smallerFirst, havingFirst, members, visits, tiesBefore, ranksBefore}
+use Rattle.model.specs.Bill.{total}
+use Rattle.model.specs.Ties.{smallerFirst, lackingFirst, members, visits, tiesBefore, ranksBefore}
 use Rattle.model.specs.Laws.{Alike, Ahead, Decides}
 use Rattle.model.proofs.Ascending.{same-members}
 
@@ -52,21 +53,21 @@ smaller-neither {a} {b} p q =
     let e : a ≡ b = omega arith in
     (e, rw (e, smaller-same) at p, rw (e, smaller-same) at q)
 
--- the set that has the node comes first: the larger number, with 1 for a set that has it
-having-is : (x y rest : Bool) → havingFirst x y rest ≡ smallerFirst (bit y) (bit x) rest
+-- the set that lacks the node comes first: the smaller number, with 1 for a set that has it
+lacking-is : (x y rest : Bool) → lackingFirst x y rest ≡ smallerFirst (bit x) (bit y) rest
 unfolding smallerFirst
-having-is true true rest = refl
-having-is true false rest = refl
-having-is false true rest = refl
-having-is false false rest = refl
+lacking-is true true rest = refl
+lacking-is true false rest = refl
+lacking-is false true rest = refl
+lacking-is false false rest = refl
 
 -- ---- the visit of nodes 1, 2, ..
 
 module _ (t : Tree) where
   visits-cons : (k l : List ℕ) (v : ℕ) (vs : List ℕ) → visits t k l (v ∷ vs)
-      ≡ smallerFirst (members t l v) (members t k v) (smallerFirst (bit (has l v)) (bit (has k v)) (visits t k l vs))
+      ≡ smallerFirst (members t l v) (members t k v) (smallerFirst (bit (has k v)) (bit (has l v)) (visits t k l vs))
   unfolding visits
-  visits-cons k l v vs = ap (smallerFirst (members t l v) (members t k v)) (having-is (has k v) (has l v) (visits t k l vs))
+  visits-cons k l v vs = ap (smallerFirst (members t l v) (members t k v)) (lacking-is (has k v) (has l v) (visits t k l vs))
 
   visits-irreflexive : (k vs : List ℕ) → visits t k k vs ≡ false
   unfolding visits
@@ -77,8 +78,9 @@ module _ (t : Tree) where
   unfolding visits
   visits-transitive k l m [] p q = p
   visits-transitive k l m (v ∷ vs) p q =
-      let rest = smaller-transitive _ _ _ (λ q p. visits-transitive k l m vs p q) in
-      rw (visits-cons k m v vs) (smaller-transitive _ _ _ rest (rw (visits-cons l m v vs) at q) (rw (visits-cons k l v vs) at p))
+      let rest = smaller-transitive _ _ _ (visits-transitive k l m vs) in
+      rw (visits-cons k m v vs)
+      (smaller-transitive _ _ _ (λ q p. rest p q) (rw (visits-cons l m v vs) at q) (rw (visits-cons k l v vs) at p))
 
   -- of two lists of which neither comes first, both or neither have each node visited
   visits-neither : (k l vs : List ℕ) → visits t k l vs ≡ false → visits t l k vs ≡ false
@@ -87,7 +89,7 @@ module _ (t : Tree) where
   visits-neither k l (u ∷ vs) p q v m =
       let counts = smaller-neither (rw (visits-cons k l u vs) at p) (rw (visits-cons l k u vs) at q) in
       let node = smaller-neither (counts .1) (counts .2) in
-      has-cases (has k v ≡ has l v) u v vs (λ e. rw (← e) (sym (bit-same (has l u) (has k u) (node .0))))
+      has-cases (has k v ≡ has l v) u v vs (λ e. rw (← e) (bit-same (has k u) (has l u) (node .0)))
       (visits-neither k l vs (node .1) (node .2) v) m
 
 -- ---- the order of ties said without recursion
@@ -101,13 +103,13 @@ module _ (t : Tree) (k l : List ℕ) where
             elim (smaller-said .0 h) [
               | inl a ↦ inl (inl a)
               | inr a ↦
-                  ⊎-map (λ b. let c = bit-less (has l v) (has k v) b in inr (sym (a .0), c .1, c .0))
-                  (λ b. ((sym (a .0), sym (bit-same (has l v) (has k v) (b .0))), b .1)) (smaller-said .0 (a .1))
+                  ⊎-map (λ b. let c = bit-less (has k v) (has l v) b in inr (sym (a .0), c .0, c .1))
+                  (λ b. ((sym (a .0), bit-same (has k v) (has l v) (b .0)), b .1)) (smaller-said .0 (a .1))
             ],
         λ h.
             smaller-said .1
             (⊎-elim (⊎-map (λ a. a) (λ a. (sym (a .0), smaller-said .1 (inl (rw (a .1, a .2) (omega arith))))))
-            (λ a. inr (sym (a .0 .0), smaller-said .1 (inr (ap bit (sym (a .0 .1)), a .1)))) h),
+            (λ a. inr (sym (a .0 .0), smaller-said .1 (inr (ap bit (a .0 .1), a .1)))) h),
       )
 
   decides-earlier : (i n v : ℕ) → Alike t k l i → Decides t k l (suc i) n v → Decides t k l i n v
@@ -153,6 +155,11 @@ module _ (t : Tree) (k l : List ℕ) where
 -- ---- the rank
 
 module _ (t : Tree) (d : Demand) where
+  pub rank-said : (k l : List ℕ) → ranksBefore t d k l ≡ true
+      ↔ ((total t d k < total t d l) ⊎ ((total t d k ≡ total t d l) × (tiesBefore t k l ≡ true)))
+  unfolding ranksBefore
+  rank-said k l = smaller-said
+
   pub rank-irreflexive : (k : List ℕ) → ranksBefore t d k k ≡ false
   unfolding ranksBefore tiesBefore
   rank-irreflexive k = simp smaller-same (visits-irreflexive t k (sites t))

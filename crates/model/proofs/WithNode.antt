@@ -1,19 +1,19 @@
 -- Laws of a set with one node more, and with more nodes.
 use mathlib.Core.Path.{_≡_, refl, sym, ap, _∙_}
-use mathlib.Core.Bool.{true, false, cond, _||_, or-assoc, or-comm}
+use mathlib.Core.Bool.{Bool, true, false, cond, _||_, or-assoc, or-comm, or-true}
 use mathlib.Core.List.{List, [], _∷_}
 use Prim.Native.Nat.{ℕ, suc, _+_, _≤_, _<_}
 use native.Mathlib.Omega.{arith}
 use lib.Dec.{ltb, eqb}
 use lib.ListN.{length}
 use borrow.Author.Tests.{ltb-true, ltb-false, eqb-true}
-use Rattle.laws.specs.Lists.{has}
+use Rattle.laws.specs.Lists.{has, howMany, bit}
 use Rattle.laws.proofs.Bools.{by-test, either}
 use Rattle.laws.proofs.Lists.{lacks-head, lacks-tail}
 use Rattle.model.specs.File.{Tree}
 use Rattle.model.specs.Rules.{ascends, isSet}
 use Rattle.model.specs.Greedy.{withNode, withNodes}
-use Rattle.model.proofs.Ascending.{ascends-cons, set-said}
+use Rattle.model.proofs.Ascending.{ascends-cons, ascends-lower, set-said}
 
 -- with a node that it lacks it still ascends
 pub ascends-with-node : (n a v : ℕ) (k : List ℕ) → a < v → v < n → has k v ≡ false → ascends a n k ≡ true → ascends a n (withNode v k) ≡ true
@@ -43,12 +43,35 @@ with-node-is-set t v k above below here lacks h =
       λ u m. either (t .isOpen u ≡ true) (eqb v u) (has k u) (λ e. rw (eqb-true v u e) at here) (said .1 u) (sym (has-with-node v u k) ∙ m),
     )
 
-length-with-node : (v : ℕ) (k : List ℕ) → length (withNode v k) ≡ suc (length k)
+-- without a node that it has it still ascends
+ascends-without-node : (n a v : ℕ) (k : List ℕ) → ascends a n (withNode v k) ≡ true → ascends a n k ≡ true
+unfolding withNode ascends
+ascends-without-node n a v [] = λ _. refl
+ascends-without-node n a v (u ∷ us) =
+    by-test (λ b. ascends a n (cond b (v ∷ u ∷ us) (u ∷ withNode v us)) ≡ true → ascends a n (u ∷ us) ≡ true) (ltb v u)
+    (λ _ h. let p = ascends-cons n a v (u ∷ us) .0 h in ascends-lower n a v (u ∷ us) (omega arith) (p .2))
+    (λ _ h. let p = ascends-cons n a u (withNode v us) .0 h in ascends-cons n a u us .1 (p .0, p .1, ascends-without-node n u v us (p .2)))
+
+-- and is a set, if it was one
+pub without-node-is-set : (t : Tree) (v : ℕ) (k : List ℕ) → isSet t (withNode v k) ≡ true → isSet t k ≡ true
+without-node-is-set t v k h =
+    let said = set-said t (withNode v k) .0 h in
+    set-said t k .1 (ascends-without-node (t .count) 0 v k (said .0), λ u m. said .1 u (rw (has-with-node v u k, m, or-true)))
+
+pub length-with-node : (v : ℕ) (k : List ℕ) → length (withNode v k) ≡ suc (length k)
 unfolding withNode
 length-with-node v [] = refl
 length-with-node v (u ∷ us) =
     by-test (λ b. length (cond b (v ∷ u ∷ us) (u ∷ withNode v us)) ≡ suc (suc (length us))) (ltb v u) (λ _. refl)
     (λ _. ap suc (length-with-node v us))
+
+-- it has one more that passes a test, if the node passes
+pub how-many-with-node : (p : ℕ → Bool) (v : ℕ) (k : List ℕ) → howMany p (withNode v k) ≡ howMany p k + bit (p v)
+unfolding withNode howMany
+how-many-with-node p v [] = omega arith
+how-many-with-node p v (u ∷ us) =
+    by-test (λ b. howMany p (cond b (v ∷ u ∷ us) (u ∷ withNode v us)) ≡ bit (p u) + howMany p us + bit (p v)) (ltb v u)
+    (λ _. omega arith) (λ _. omega (arith, how-many-with-node p v us))
 
 pub length-with-nodes : (k vs : List ℕ) → length (withNodes k vs) ≡ length k + length vs
 unfolding withNodes

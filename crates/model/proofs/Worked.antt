@@ -1,4 +1,4 @@
--- The definitions agree with document 01's worked cases that it does not mark, and with those of 02, items 2, 3, 4 and 9, on
+-- The definitions agree with document 01's worked cases that it does not mark, and with those of 02, items 2, 3, 4, 6 and 9, on
 -- bytes written out.
 use mathlib.Core.Path.{_≡_, refl}
 use mathlib.Core.List.{List, [], _∷_, flatMap}
@@ -16,9 +16,9 @@ use Rattle.model.specs.Calls.{after, ScratchAfter, checkNumber, recordBy
 use Rattle.model.specs.Report.{setOfRow, ReportMemory, reportVerdict, ReportCall, digits, decimal, line, reportText, refusalText, verdictWithin, textWithin}
 use Rattle.model.specs.Hosts.{wordsAsked, HostBillMemory, hostBillVerdict, HostBillCall}
 use Rattle.model.specs.Bytes.{bytesOf, headerBytes, recordOf}
-use Rattle.model.specs.Cases.{treeA}
+use Rattle.model.specs.Cases.{treeA, chain}
 use Rattle.model.specs.Situations.{firstSituation, costIn, paperCost, situation}
-use Rattle.model.specs.Samples.{fileA, secondA, thirdA, closedLast, lastByte, visited, largest, secondLargest, threeSevenths, tooMuch, eachKind, secondEachKind, tooLong}
+use Rattle.model.specs.Samples.{fileA, twoFamilies, unitTree, secondA, thirdA, closedLast, lastByte, visited, largest, secondLargest, threeSevenths, tooMuch, eachKind, secondEachKind, tooLong}
 use Rattle.model.specs.Worked.{Worked}
 
 -- ---- what a call's statement settles
@@ -68,7 +68,7 @@ of-two P a b (suc zero) h = b
 of-two P a b (suc (suc f)) h = absurd (omega arith)
 
 pub worked : Worked
-unfolding fileA secondA thirdA closedLast visited largest secondLargest threeSevenths tooMuch eachKind secondEachKind tooLong bytesOf headerBytes recordOf treeA flatMap range sum least greatest has anyOf allOf those howMany firstThat same number hasRatios hasOpenBytes recordLength fieldOf openOf shareOf climb route atOrBelow nodesOfRow depth height distance parentHolds lengthHolds recordVerdict recordsVerdict marked fileVerdict accepted ascends isSet scratchWords whole cachable price cost total upTo clientLoad linkLoad serving smallerFirst members visits tiesBefore ranksBefore setsOf firstOf plan withNode withNodes leastNode stepOver takenFrom checkNumber recordBytes billVerdict rankVerdict ranking planTotals planRows planVerdict greedyTotals greedyRow greedyVerdict setOfRow reportVerdict digits decimal line reportText refusalText verdictWithin textWithin wordsAsked hostBillVerdict firstSituation costIn paperCost situation
+unfolding fileA twoFamilies unitTree secondA thirdA closedLast visited largest secondLargest threeSevenths tooMuch eachKind secondEachKind tooLong bytesOf headerBytes recordOf treeA chain flatMap range sum least greatest has anyOf allOf those howMany firstThat same number hasRatios hasOpenBytes recordLength fieldOf openOf shareOf climb route atOrBelow nodesOfRow depth height distance parentHolds lengthHolds recordVerdict recordsVerdict marked fileVerdict accepted ascends isSet scratchWords whole cachable price cost total upTo clientLoad linkLoad serving smallerFirst members visits tiesBefore ranksBefore setsOf firstOf plan withNode withNodes leastNode stepOver takenFrom checkNumber recordBytes billVerdict rankVerdict ranking planTotals planRows planVerdict greedyTotals greedyRow greedyVerdict setOfRow reportVerdict digits decimal line reportText refusalText verdictWithin textWithin wordsAsked hostBillVerdict firstSituation costIn paperCost situation
 worked = record {
   files = record {
     offsets = refl;
@@ -239,6 +239,10 @@ worked = record {
     totalsOfOpen = refl;
     greedyOfOpen = refl;
     rowOfOpen = refl;
+    lowerOpenPasses = refl;
+    lowerClosedPasses = refl;
+    lowerOpen = refl;
+    lowerClosed = refl;
     visitedPasses = refl;
     visitedPlan = refl;
     visitedTotal = refl;
@@ -318,6 +322,20 @@ worked = record {
     firstSetOver = refl;
     secondSetOver = refl;
     rankedFileRefused = refl;
+    lowerIsFirst = refl;
+    lowerIsSecond = refl;
+    fewestIsFirst = refl;
+    winnerIsLower = refl;
+    lowerPlanned = refl;
+    upperTaken = refl;
+    unitPasses = refl;
+    lackingIsFirst = refl;
+    lackingIsSecond = refl;
+    lowerOfTwo = refl;
+    totalsOfUnit = refl;
+    lowerTwoPlanned = refl;
+    upperTwoTaken = refl;
+    deeperNotFirst = refl;
     winnerIsFirst = refl;
     winnerIsSecond = refl;
     noWinner = refl;
@@ -396,6 +414,7 @@ worked = record {
   };
   program = record {
     reportOfA = refl;
+    reportOfChain = refl;
     refusalOfLength = refl;
     reportOfSecondA = refl;
     refusalOfCachable = refl;

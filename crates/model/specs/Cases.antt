@@ -1,4 +1,5 @@
--- Document 01, "Trees to try": the twelve cases marked *, in its order, and the test that they hold.
+-- Document 01, "Trees to try": the twelve cases marked *, in its order, and the test that they hold. 02, item 6 changes one: "The
+-- zero-length case of 01 then plans {2}".
 use mathlib.Core.Bool.{Bool, true, _&&_}
 use mathlib.Core.List.{List, [], _∷_, _++_, map, flatMap}
 use Prim.Native.Nat.{ℕ}
@@ -66,7 +67,7 @@ cases =
     ∷ totalIs (treeA 20 1000 5 800) (2 ∷ 3 ∷ []) 20000
     ∷ loadsAre (treeA 20 1000 5 800) (1 ∷ []) (0 ∷ 0 ∷ 20000 ∷ 20000 ∷ 5000 ∷ [])
     ∷ planIs siblings 1 (1 ∷ [])
-    ∷ planIs chain 1 (1 ∷ [])
+    ∷ planIs chain 1 (2 ∷ [])
     ∷ emptyPlans (treeA 0 1000 0 800)
     ∷ textIs serverAlone twoLines
     ∷ emptyPlans (treeA 20 0 5 0)

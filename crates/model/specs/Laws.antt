@@ -37,15 +37,21 @@ module _ (t : Tree) (k l : List ℕ) where
   abbrev pub Alike : ℕ → Type 0
   Alike u = (under t k u ≡ under t l u) × (has k u ≡ has l u)
 
-  -- K has more nodes at or below v than L, or equally many and K has v and L has not
+  -- K has more nodes at or below v than L, or equally many and L has v and K has not
   abbrev pub Ahead : ℕ → Type 0
-  Ahead v = (under t l v < under t k v) ⊎ ((under t k v ≡ under t l v) × (has k v ≡ true) × (has l v ≡ false))
+  Ahead v = (under t l v < under t k v) ⊎ ((under t k v ≡ under t l v) × (has k v ≡ false) × (has l v ≡ true))
 
   -- of the nodes from i on and below n, v is the first at which K and L are not alike, and K is ahead there
   pub record Decides (i n v : ℕ) : Type 0 where
     pub site : (i ≤ v) × (v < n)
     pub before : (u : ℕ) → i ≤ u → u < v → Alike u
     pub here : Ahead v
+
+-- v is a site below u, and K has neither
+pub record LowerSite (t : Tree) (k : List ℕ) (u v : ℕ) : Type 0 where
+  pub site : (1 ≤ u) × (v < t .count)
+  pub below : (has (route t v) u ≡ true) × (v ≡ u → ⊥)
+  pub outside : (has k u ≡ false) × (has k v ≡ false)
 
 -- ---- for law i: the greedy rule, said without recursion
 
@@ -113,7 +119,9 @@ pub record Lawful (t : Tree) (d : Demand) : Type 0 where
   -- b nodes.
   pub setSaid : (k : List ℕ) → isSet t k ≡ true ↔ ((ascends 0 (t .count) k ≡ true) × ((v : ℕ) → has k v ≡ true → t .isOpen v ≡ true))
   pub allSetsExact : (b : ℕ) (k : List ℕ) → List·Memᴰ k (allSets t b) ↔ ((isSet t k ≡ true) × (length k ≤ b))
-  -- d. Rank is a strict total order on sets.
+  -- d. Rank is by total, then in the order of ties, and is a strict total order on sets.
+  pub rankSaid : (k l : List ℕ) → ranksBefore t d k l ≡ true
+      ↔ ((total t d k < total t d l) ⊎ ((total t d k ≡ total t d l) × (tiesBefore t k l ≡ true)))
   pub rankIrreflexive : (k : List ℕ) → ranksBefore t d k k ≡ false
   pub rankTransitive : (k l m : List ℕ) → ranksBefore t d k l ≡ true → ranksBefore t d l m ≡ true → ranksBefore t d k m ≡ true
   pub rankTotal : (k l : List ℕ) → isSet t k ≡ true → isSet t l ≡ true → (k ≡ l → ⊥)
@@ -133,6 +141,11 @@ pub record Lawful (t : Tree) (d : Demand) : Type 0 where
   -- h. The order of ties, said without recursion.
   pub tiesSaid : (k l : List ℕ) → tiesBefore t k l ≡ true
       ↔ ((length k < length l) ⊎ ((length k ≡ length l) × ((v : ℕ) × Decides t k l 1 (t .count) v)))
+  -- "Operators prefer the lower of two equal sites": K with the lower one comes first, and the plan has no site in whose place an open
+  -- one below it costs as little.
+  pub lowerFirst : (k : List ℕ) (u v : ℕ) → LowerSite t k u v → tiesBefore t (withNode v k) (withNode u k) ≡ true
+  pub planLowest : (b : ℕ) (k : List ℕ) (u v : ℕ) → LowerSite t k u v → t .isOpen v ≡ true → plan t d b ≡ withNode u k
+      → planTotal t d b < total t d (withNode v k)
   -- i. The greedy rule, said without recursion; only its nodes fit, and fewer steps take the first of them. A set with one
   -- node more has that node and its own.
   pub withNodeHas : (v u : ℕ) (k : List ℕ) → has (withNode v k) u ≡ (eqb v u || has k u)

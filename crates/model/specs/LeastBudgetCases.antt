@@ -6,7 +6,7 @@ use Prim.Native.Nat.{ℕ}
 use lib.ListN.{length, take, drop}
 use Rattle.model.specs.Rules.{passed, broken}
 use Rattle.model.specs.Calls.{Answer, answered, refused, Least, none, leastIs}
-use Rattle.model.specs.LeastBudget.{leastBudget, LeastBudgetMemory, leastBudgetVerdict, LeastBudgetCall}
+use Rattle.model.specs.LeastBudget.{leastBudget, rowWritten, LeastBudgetMemory, leastBudgetVerdict, LeastBudgetCall}
 use Rattle.model.specs.Hosts.{HostLeastBudgetMemory, hostLeastBudgetVerdict, HostLeastBudgetCall}
 use Rattle.model.specs.Cases.{chain}
 use Rattle.model.specs.Samples.{fileA, budgetA, serverRecord, oneNode, largest, tooLong, threeSevenths, tooMuch, thirdA, lastByte, leastBudgetMemory, hostLeastBudgetMemory}
@@ -31,8 +31,9 @@ pub record LeastBudgetCases : Type 0 where
   -- where larger budgets cost as much, the least of them
   pub threeOfThirtyTwo : leastBudget (budgetA 0x20) 4000 ≡ leastIs 3
   pub serverAlone : leastBudget (oneNode serverRecord) 0 ≡ leastIs 0
-  -- a link of length 0, and the largest total less 1
+  -- a link of length 0, where the row has the lower site, and the largest total less 1
   pub zeroLength : leastBudget chain 0 ≡ leastIs 1
+  pub lowerInRow : rowWritten chain (leastIs 1) ≡ 2 ∷ []
   pub largestBelow : leastBudget largest 99_999_999_999_999 ≡ leastIs 1
   -- version 2, with 3 of 7 bytes cachable
   pub sevenths : leastBudget threeSevenths 12000 ≡ leastIs 1

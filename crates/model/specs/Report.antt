@@ -1,4 +1,4 @@
--- Document 01, "Report", with 02, items 2 and 9: demand 3 as one record, the report call, and the text that the program prints.
+-- Document 01, "Report", with 02, items 2, 6 and 9: demand 3 as one record, the report call, and the text that the program prints.
 use mathlib.Core.Path.{_≡_}
 use mathlib.Core.Bool.{Bool, true, false, _&&_, not}
 use mathlib.Core.List.{List, [], _∷_, _++_, map, flatMap}
@@ -28,7 +28,7 @@ pub record HoldsOptimum (t : Tree) (d : Demand) (b : ℕ) (held : List ℕ) (pla
   pub overLinks : planHeld ≡ linkTotal t d held
   -- "every other set of at most b nodes", open ones, "costs at least as much"
   pub noRivalLess : (l : List ℕ) → isSet t l ≡ true → length l ≤ b → planHeld ≤ total t d l
-  -- "and one that costs the same comes later in the order of ties"
+  -- "and one that costs the same comes later in the order of ties", that of 02, item 6
   pub rivalsLater : (l : List ℕ) → isSet t l ≡ true → length l ≤ b → (l ≡ held → ⊥) → total t d l ≡ planHeld → tiesBefore t held l ≡ true
   -- "exactly the total that the greedy rule reaches in at most b steps"
   pub greedyExact : greedyHeld ≡ greedyTotal t d b

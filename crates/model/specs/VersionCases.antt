@@ -11,7 +11,7 @@ use Rattle.model.specs.Plan.{plan}
 use Rattle.model.specs.Calls.{answered, refused, checkNumber, recordBytes, billVerdict, linkLoads, first, second, ranking, winner, planTotals, planRows, planVerdict, greedyTotals, greedyRow}
 use Rattle.model.specs.Hosts.{wordsAsked, hostBillVerdict}
 use Rattle.model.specs.Versions.{BothVersions, AddsOpenBytes}
-use Rattle.model.specs.Samples.{fileA, secondA, secondHeader, twelveBytes, secondOneNode, secondTwoNodes, secondLargest, threeSevenths, tooMuch, thirdA, closedLast, thirdHeader, thirteenBytes, thirdOneNode, thirdTwoNodes, thirdChained, lastByte, visited, billMemory, hostBillMemory, planMemory}
+use Rattle.model.specs.Samples.{fileA, secondA, secondHeader, twelveBytes, secondOneNode, secondTwoNodes, secondLargest, threeSevenths, tooMuch, thirdA, closedLast, thirdHeader, thirteenBytes, thirdOneNode, thirdTwoNodes, thirdChained, lastByte, thirdChain, visited, billMemory, hostBillMemory, planMemory}
 
 -- ---- 02, item 2: questions 1 to 10 and 17 of a file with cachable bytes, and its bill and plan
 
@@ -165,6 +165,11 @@ pub record ThirdCases : Type 0 where
   pub totalsOfOpen : planTotals (lastByte 0x01) ≡ 21000 ∷ 12000 ∷ []
   pub greedyOfOpen : greedyTotals (lastByte 0x01) ≡ 21000 ∷ 12000 ∷ []
   pub rowOfOpen : greedyRow (lastByte 0x01) ≡ 1 ∷ []
+  -- the lower of two sites that cost the same, if it is open
+  pub lowerOpenPasses : fileVerdict (thirdChain 0x01) ≡ passed
+  pub lowerClosedPasses : fileVerdict (thirdChain 0x00) ≡ passed
+  pub lowerOpen : planRows (thirdChain 0x01) ≡ 0 ∷ 2 ∷ []
+  pub lowerClosed : planRows (thirdChain 0x00) ≡ 0 ∷ 1 ∷ []
   -- the order of ties visits closed nodes too: {4, 5, 6} has three nodes at or below node 1, {2, 3, 7} has two. A visit of open nodes
   -- only would begin at node 2, which only the second has
   pub visitedPasses : fileVerdict visited ≡ passed

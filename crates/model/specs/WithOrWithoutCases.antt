@@ -25,9 +25,9 @@ pub record WithOrWithoutCases : Type 0 where
   pub moreThanAll : bothLeast (budgetA 0x20) 2 32 ≡ (leastIs 4000, leastIs 24000)
   -- 100,000,000 × 1,000 × 1,000, all of it saved by a cache with hit 1,000
   pub largestTotals : bothLeast largest 1 1 ≡ (leastIs 0, leastIs 100_000_000_000_000)
-  -- "only if": where both are equal, the plan has node 1 and not node 2 (`Cases`)
-  pub tiePlanned : bothLeast chain 1 1 ≡ (leastIs 0, leastIs 0)
-  pub tieNotPlanned : bothLeast chain 2 1 ≡ (leastIs 0, leastIs 0)
+  -- "only if": where both are equal, the plan has node 2 and not node 1 (`Cases`)
+  pub tiePlanned : bothLeast chain 2 1 ≡ (leastIs 0, leastIs 0)
+  pub tieNotPlanned : bothLeast chain 1 1 ≡ (leastIs 0, leastIs 0)
   -- version 2, with 3 of 7 bytes cachable
   pub sevenths : bothLeast threeSevenths 1 1 ≡ (leastIs 12000, leastIs 21000)
   -- version 3: "a closed node in item 1 has no set that contains it"; where node 2 is asked about, no set has the closed node 1 either

@@ -1,5 +1,6 @@
--- Document 01's worked cases that it does not mark *, and its numbers from elsewhere, with those of 02, items 2, 3, 4 and 9: each on a
--- file written out byte by byte (`Samples`), with the answer that the documents give. `VersionCases` has those of versions 2 and 3.
+-- Document 01's worked cases that it does not mark *, and its numbers from elsewhere, with those of 02, items 2, 3, 4, 6 and 9: each
+-- on a file written out byte by byte (`Samples`) or on 01's chain of length 0 (`Cases`), with the answer that the documents give.
+-- `VersionCases` has those of versions 2 and 3.
 use mathlib.Core.Path.{_≡_}
 use mathlib.Core.List.{List, [], _∷_, _++_, map}
 use Prim.Native.Nat.{ℕ}
@@ -11,8 +12,8 @@ use Rattle.model.specs.Bill.{totalLimit, cost, total}
 use Rattle.model.specs.Calls.{Answer, answered, refused, after, checkNumber, recordBytes, billVerdict, servingNodes, linkLoads, BillMemory, BillCall, first, second, ranking, winner, planTotals, planRows, PlanMemory, planVerdict, PlanCall, greedyTotals, greedyRow, GreedyMemory, greedyVerdict, GreedyCall}
 use Rattle.model.specs.Report.{setOfRow, ReportMemory, DemandThree, reportVerdict, ReportCall, verdictWithin, textWithin, programVerdict, programText}
 use Rattle.model.specs.Hosts.{codeOf, wordsAsked, HostBillMemory, hostBillVerdict, HostBillCall}
-use Rattle.model.specs.Cases.{treeA}
-use Rattle.model.specs.Samples.{fileA, header, tenBytes, serverRecord, oneNode, twoNodes, chained, largest, tooLong, eachKind, secondA, secondHeader, secondChained, threeSevenths, tooMuch, secondEachKind, thirdA, thirdHeader, lastByte, billMemory, hostBillMemory, planMemory, greedyMemory, reportMemory}
+use Rattle.model.specs.Cases.{treeA, chain}
+use Rattle.model.specs.Samples.{fileA, twoFamilies, unitTree, header, tenBytes, serverRecord, oneNode, twoNodes, chained, largest, tooLong, eachKind, secondA, secondHeader, secondChained, threeSevenths, tooMuch, secondEachKind, thirdA, thirdHeader, lastByte, billMemory, hostBillMemory, planMemory, greedyMemory, reportMemory}
 use Rattle.model.specs.VersionCases.{SecondCases, ThirdCases}
 use Rattle.model.specs.Situations.{Situation, noCache, nothing, everything, partly, firstSituation, costIn, paperCost, situation}
 
@@ -168,6 +169,23 @@ pub record CallCases : Type 0 where
   pub firstSetOver : ranking fileA (5 ∷ []) (1 ∷ []) ≡ refused 12 0
   pub secondSetOver : ranking fileA (1 ∷ []) (5 ∷ []) ≡ refused 12 0
   pub rankedFileRefused : ranking tooLong (5 ∷ []) [] ≡ refused 9 1
+  -- 02, item 6: of two sites the lower, though not before fewest nodes; "Greedy keeps the smallest number"
+  pub lowerIsFirst : ranking chain (2 ∷ []) (1 ∷ []) ≡ answered first
+  pub lowerIsSecond : ranking chain (1 ∷ []) (2 ∷ []) ≡ answered second
+  pub fewestIsFirst : ranking chain (1 ∷ []) (1 ∷ 2 ∷ []) ≡ answered first
+  pub winnerIsLower : winner chain (1 ∷ []) (2 ∷ []) ≡ 2 ∷ []
+  pub lowerPlanned : planRows chain ≡ 0 ∷ 2 ∷ []
+  pub upperTaken : greedyRow chain ≡ 1 ∷ []
+  -- {2, 4} lacks node 1, and {1, 3} has it; by the members at or below each node alone {1, 3} would come first, at node 3
+  pub unitPasses : fileVerdict unitTree ≡ passed
+  pub lackingIsFirst : ranking unitTree (2 ∷ 4 ∷ []) (1 ∷ 3 ∷ []) ≡ answered first
+  pub lackingIsSecond : ranking unitTree (1 ∷ 3 ∷ []) (2 ∷ 4 ∷ []) ≡ answered second
+  pub lowerOfTwo : ranking unitTree (1 ∷ 2 ∷ []) (1 ∷ 3 ∷ []) ≡ answered second
+  pub totalsOfUnit : planTotals unitTree ≡ 8000 ∷ 4000 ∷ 2000 ∷ []
+  pub lowerTwoPlanned : planRows unitTree ≡ 0 ∷ 0 ∷ 2 ∷ 0 ∷ 2 ∷ 4 ∷ []
+  pub upperTwoTaken : greedyRow unitTree ≡ 1 ∷ 2 ∷ []
+  -- a deeper node on another route is not the lower of two sites
+  pub deeperNotFirst : ranking twoFamilies (1 ∷ []) (4 ∷ []) ≡ answered first
   pub winnerIsFirst : winner fileA (2 ∷ 3 ∷ []) (1 ∷ 2 ∷ []) ≡ 2 ∷ 3 ∷ []
   pub winnerIsSecond : winner fileA (1 ∷ 2 ∷ []) (2 ∷ 3 ∷ []) ≡ 2 ∷ 3 ∷ []
   pub noWinner : winner fileA (1 ∷ []) (5 ∷ []) ≡ []
@@ -189,13 +207,8 @@ pub record CallCases : Type 0 where
   -- 02, item 3: how many nodes are at or below each node and its later siblings
   pub nodesOfRowsOfA : nodesOfRows fileA ≡ 4 ∷ 2 ∷ 1 ∷ 1 ∷ []
   pub nodesOfRowsOfEachKind : nodesOfRows eachKind ≡ 7 ∷ 5 ∷ 4 ∷ 3 ∷ 2 ∷ 1 ∷ 1 ∷ []
-  -- nodes 1 and 3 below the server, 2 below 1, 4 below 3: what is below a later sibling counts, a cousin does not
-  pub nodesOfTwoFamilies : nodesOfRows (header 0x00 0x05 0x00 0x00
-      ++ tenBytes 0x00 0x00 0x00 0x00 0x00 0x00 0x00 0x00 0x00 0x00
-      ++ tenBytes 0x00 0x00 0x00 0x00 0x00 0x00 0x00 0x00 0x00 0x00
-      ++ tenBytes 0x00 0x01 0x00 0x00 0x00 0x00 0x00 0x00 0x00 0x00
-      ++ tenBytes 0x00 0x00 0x00 0x00 0x00 0x00 0x00 0x00 0x00 0x00
-      ++ tenBytes 0x00 0x03 0x00 0x00 0x00 0x00 0x00 0x00 0x00 0x00) ≡ 4 ∷ 1 ∷ 2 ∷ 1 ∷ []
+  -- what is below a later sibling counts, a cousin does not
+  pub nodesOfTwoFamilies : nodesOfRows twoFamilies ≡ 4 ∷ 1 ∷ 2 ∷ 1 ∷ []
   -- tree A with another k: with k 0 each line has one entry, and from k 4 on no line grows
   pub scratchOfNone : scratchWords (take 8 fileA ++ (0x00 ∷ drop 9 fileA)) ≡ 26
   pub scratchOfThree : scratchWords (take 8 fileA ++ (0x03 ∷ drop 9 fileA)) ≡ 36
@@ -342,6 +355,10 @@ pub record ProgramCases : Type 0 where
       ≡ (0x30 ∷ 0x20 ∷ 0x31 ∷ 0x34 ∷ 0x30 ∷ 0x30 ∷ 0x30 ∷ 0x30 ∷ 0x20 ∷ 0x31 ∷ 0x34 ∷ 0x30 ∷ 0x30 ∷ 0x30 ∷ 0x30 ∷ 0x0A ∷ [])
       ++ (0x31 ∷ 0x20 ∷ 0x36 ∷ 0x30 ∷ 0x30 ∷ 0x30 ∷ 0x30 ∷ 0x20 ∷ 0x36 ∷ 0x30 ∷ 0x30 ∷ 0x30 ∷ 0x30 ∷ 0x20 ∷ 0x31 ∷ 0x0A ∷ [])
       ++ (0x32 ∷ 0x20 ∷ 0x32 ∷ 0x30 ∷ 0x30 ∷ 0x30 ∷ 0x30 ∷ 0x20 ∷ 0x34 ∷ 0x30 ∷ 0x30 ∷ 0x30 ∷ 0x30 ∷ 0x20 ∷ 0x32 ∷ 0x20 ∷ 0x33 ∷ 0x0A ∷ [])
+  -- `0 12000 12000`, `1 0 0 2`: the lower of two sites
+  pub reportOfChain : programText chain
+      ≡ (0x30 ∷ 0x20 ∷ 0x31 ∷ 0x32 ∷ 0x30 ∷ 0x30 ∷ 0x30 ∷ 0x20 ∷ 0x31 ∷ 0x32 ∷ 0x30 ∷ 0x30 ∷ 0x30 ∷ 0x0A ∷ [])
+      ++ (0x31 ∷ 0x20 ∷ 0x30 ∷ 0x20 ∷ 0x30 ∷ 0x20 ∷ 0x32 ∷ 0x0A ∷ [])
   -- `refused 9 1`
   pub refusalOfLength : programText tooLong ≡ 0x72 ∷ 0x65 ∷ 0x66 ∷ 0x75 ∷ 0x73 ∷ 0x65 ∷ 0x64 ∷ 0x20 ∷ 0x39 ∷ 0x20 ∷ 0x31 ∷ 0x0A ∷ []
   -- tree A in version 2, and `refused 17 1`

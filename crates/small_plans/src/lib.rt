@@ -289,7 +289,7 @@ fn by_more(first: u32, second: u32) -> Order {
     Order::Same
 }
 
-// What node v says of two sets: more members at or below it, then the node itself.
+// What node v says of two sets: more members at or below it, then the set without the node itself.
 fn order_at(tree: SmallTree, first: u8, second: u8, v: usize) -> Order {
     let below = at_or_below(tree, v);
     let order = by_more(
@@ -298,8 +298,8 @@ fn order_at(tree: SmallTree, first: u8, second: u8, v: usize) -> Order {
     );
     match order {
         Order::Same => by_more(
-            small_trees::size(first & small_trees::only(v)),
             small_trees::size(second & small_trees::only(v)),
+            small_trees::size(first & small_trees::only(v)),
         ),
         told => told,
     }

@@ -1,6 +1,6 @@
--- `takes`: whether the node itself is one of the n caches: it is, unless it costs less without.
+-- `takes`: whether the node itself is one of the n caches: it is, if that costs less than leaving it out.
 use borrow.Author.Needs.{needs}
-use Rattle.lines.proofs.Node.{takes-unless-less}
+use Rattle.lines.proofs.Node.{takes-if-less}
 use Rattle.lines.proofs.takes.Statement.{statement}
 use Rattle.lines.proofs.takes.Tie as tie
 
@@ -11,7 +11,7 @@ is-less-requires : tie.Need-is-less-requires
 is-less-requires c κs = search needs
 
 returns : tie.Need-returns
-returns c = takes-unless-less _ _ _ _ _ (c .before .node-costs .ensures .0) (c .before .node-costs .ensures .1) (c .is-less .ensures)
+returns c = takes-if-less _ _ _ _ _ (c .before .node-costs .ensures .0) (c .before .node-costs .ensures .1) (c .is-less .ensures)
 
 pub takes-spec : {M : Type 1} → statement M
 takes-spec = tie.close (tie.spec node-costs-requires is-less-requires returns)
