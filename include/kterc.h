@@ -78,7 +78,9 @@ uint32_t kterc_bill(const uint8_t *file, size_t file_length, const uint16_t *set
                     size_t total_length, uint16_t *serving, size_t serving_length, uint64_t *loads, size_t loads_length);
 
 /* The plan. Asked of the arrays: k + 1 entries of totals, (k + 1) * k of rows. Total b, counted from 0, is the least total of at
- * most b caches at open nodes; row b, at rows + b * k, has the nodes of the first set that reaches it, ascending, then zeros. */
+ * most b caches at open nodes; row b, at rows + b * k, has the nodes of the first set that reaches it, ascending, then zeros. Of two
+ * such sets the one with fewer nodes comes first; then, node by node from 1 on, the one with more nodes at or below that node,
+ * and if equally many the one without that node; the first difference decides. */
 uint32_t kterc_plan(const uint8_t *file, size_t file_length, uint64_t *scratch, size_t scratch_length, uint64_t *totals,
                     size_t totals_length, uint16_t *rows, size_t rows_length);
 
