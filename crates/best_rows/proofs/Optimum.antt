@@ -16,14 +16,13 @@ use Rattle.laws.proofs.Lists.{in-range}
 use Rattle.model.specs.File.{Tree, Demand, treeOf, demandOf}
 use Rattle.model.specs.Rules.{passed, fileVerdict, isSet}
 use Rattle.model.specs.Bill.{total}
-use Rattle.model.specs.Ties.{ranksBefore}
 use Rattle.model.specs.Plan.{plan, planTotal}
 use Rattle.model.specs.Calls.{leastIs}
 use Rattle.model.specs.WithOrWithout.{SetWhere, LeastWhere}
 use Rattle.model.specs.Accepted.{Sound}
 use Rattle.model.proofs.Accepted.{accepted-sound}
 use Rattle.model.proofs.Ascending.{ascends-bounds, set-said, empty-is-set}
-use Rattle.model.proofs.Order.{smaller-said}
+use Rattle.model.proofs.Order.{rank-said}
 use Rattle.model.proofs.Plans.{only-plan}
 use Rattle.best_rows.specs.Guarded.{mayBe, wish, grants, mayBeUnder, AllowedSet, RanksFirstAllowed}
 use Rattle.best_rows.specs.TreeRows.{nodesAfter, firstChild, rowAt, serverRow}
@@ -121,11 +120,10 @@ module _ (v : ℕ) (u : Bool) (k : List ℕ) where
 -- no allowed set costs less than the first
 first-no-dearer : (t : Tree) (d : Demand) (allows : ℕ → Bool → Bool) (b : ℕ) (k : List ℕ) → RanksFirstAllowed t d allows b k
     → (l : List ℕ) → AllowedSet t allows b l → total t d k ≤ total t d l
-unfolding ranksBefore
 first-no-dearer t d allows b k r l a =
     elim (List-discrete ℕ-discrete l k) [
       | yes e ↦ omega (arith, ap (total t d) e)
-      | no n ↦ ⊎-elim (λ h. omega arith) (λ h. omega arith) (smaller-said .0 (r .first l a n))
+      | no n ↦ ⊎-elim (λ h. omega arith) (λ h. omega arith) (rank-said t d k l .0 (r .first l a n))
     ]
 
 -- for every accepted file, node and budget: if there is such a set, the least found is the least total of these sets

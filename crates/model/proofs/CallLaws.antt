@@ -28,7 +28,7 @@ use Rattle.model.proofs.Verdicts.{ask-passed, then-passed, answered-pas
 use Rattle.model.proofs.Accepted.{accepted-sound}
 use Rattle.model.proofs.Bounds.{total-bound}
 use Rattle.model.proofs.Words.{words-fewer, words-most}
-use Rattle.model.proofs.Order.{smaller-said}
+use Rattle.model.proofs.Order.{rank-said}
 use Rattle.model.proofs.Plans.{only-plan}
 use Rattle.model.proofs.WithOrWithout.{with-least, without-least, without-some}
 use Rattle.model.proofs.Codes.{Numbered, numbered-within, code-reads, code-none, bill-numbered, plan-numbered, greedy-numbered, report-numbered, with-or-without-numbered}
@@ -192,13 +192,12 @@ none-told t d P small (leastIs x) h e = absurd (omega (arith, small (h .1 .0), h
 
 module _ (t : Tree) (d : Demand) (b : ℕ) where
   optimum-ranks-first : (held : List ℕ) (p g : ℕ) → HoldsOptimum t d b held p g → RanksFirst t d b held
-  unfolding ranksBefore
   optimum-ranks-first held p g h =
       record {
         isASet = h .isASet;
         within = h .withinBudget;
         first = λ l s w n.
-            smaller-said .1
+            rank-said t d held l .1
             (elim (decLt (total t d held) (total t d l)) [
               | yes less ↦ inl less
               | no same ↦

@@ -21,7 +21,7 @@ use Rattle.model.specs.Greedy.{withNode}
 use Rattle.model.specs.Laws.{under, Alike, Decides, LowerSite}
 use Rattle.model.proofs.Intervals.{below-after, rest-of-route}
 use Rattle.model.proofs.WithNode.{has-with-node, with-node-is-set, without-node-is-set, length-with-node, how-many-with-node}
-use Rattle.model.proofs.Order.{ties-said, rank-said, rank-irreflexive, rank-transitive}
+use Rattle.model.proofs.Order.{ties-said, rank-said, rank-one-way}
 use Rattle.model.proofs.Plans.{plan-ranks-first}
 
 module _ (t : Tree) (pre : Preorder t) (k : List ℕ) (u v : ℕ) (lower : LowerSite t k u v) where
@@ -84,5 +84,5 @@ module _ (t : Tree) (pre : Preorder t) (k : List ℕ) (u v : ℕ) (lower : Lower
         ⊎-elim (λ less. less)
         (λ same.
         let after = rank-said t d (withNode v k) (plan t d b) .1 (inr (sym (same .0), rw is lower-first)) in
-        absurd (not-both (rank-transitive t d (plan t d b) (withNode v k) (plan t d b) before after) (rank-irreflexive t d (plan t d b))))
+        absurd (rank-one-way t d (plan t d b) (withNode v k) before after))
         (rank-said t d (plan t d b) (withNode v k) .0 before)

@@ -168,6 +168,10 @@ module _ (t : Tree) (d : Demand) where
   unfolding ranksBefore tiesBefore
   rank-transitive k l m = smaller-transitive _ _ _ (smaller-transitive _ _ _ (visits-transitive t k l m (sites t)))
 
+  -- of two lists not each ranks before the other
+  pub rank-one-way : (k l : List ℕ) → ranksBefore t d k l ≡ true → ranksBefore t d l k ≡ true → ⊥
+  rank-one-way k l before after = not-both (rank-transitive k l k before after) (rank-irreflexive k)
+
   -- two ascending lists of nodes of which neither ranks before the other are one
   rank-neither : (k l : List ℕ) → ascends 0 (t .count) k ≡ true → ascends 0 (t .count) l ≡ true
       → ranksBefore t d k l ≡ false → ranksBefore t d l k ≡ false → k ≡ l

@@ -14,7 +14,7 @@ use Rattle.model.specs.Bill.{total}
 use Rattle.model.specs.Ties.{tiesBefore, ranksBefore}
 use Rattle.model.specs.Plan.{allSets, firstOf, plan, planTotal}
 use Rattle.model.specs.Laws.{RanksFirst}
-use Rattle.model.proofs.Order.{smaller-said, rank-irreflexive, rank-transitive, rank-total}
+use Rattle.model.proofs.Order.{rank-said, rank-transitive, rank-one-way, rank-total}
 use Rattle.model.proofs.Ascending.{set-ascends, empty-is-set}
 use Rattle.model.proofs.Sets.{all-sets}
 
@@ -94,18 +94,16 @@ module _ (t : Tree) (d : Demand) (b : ℕ) where
         | no n ↦
             let before = r .first (plan t d b) (p .isASet) (p .within) (λ e. n (sym e)) in
             let after = p .first k (r .isASet) (r .within) n in
-            absurd (not-both (rank-transitive t d k (plan t d b) k before after) (rank-irreflexive t d k))
+            absurd (rank-one-way t d k (plan t d b) before after)
       ]
 
   -- no set of at most b nodes costs less
   pub plan-least : (l : List ℕ) → isSet t l ≡ true → length l ≤ b → planTotal t d b ≤ total t d l
-  unfolding ranksBefore
   plan-least l g h =
-      ⊎-elim (λ e. omega (arith, ap (total t d) e)) (λ p. ⊎-elim (λ a. omega arith) (λ a. omega arith) (smaller-said .0 p))
+      ⊎-elim (λ e. omega (arith, ap (total t d) e)) (λ p. ⊎-elim (λ a. omega arith) (λ a. omega arith) (rank-said t d (plan t d b) l .0 p))
       (plan-no-later l g h)
 
   -- another that costs the same comes later in the order of ties
   pub plan-ties : (l : List ℕ) → isSet t l ≡ true → length l ≤ b → (l ≡ plan t d b → ⊥) → total t d l ≡ planTotal t d b
       → tiesBefore t (plan t d b) l ≡ true
-  unfolding ranksBefore
-  plan-ties l g h n e = ⊎-elim (λ a. absurd (omega arith)) (λ a. a .1) (smaller-said .0 (plan-ranks-first .first l g h n))
+  plan-ties l g h n e = ⊎-elim (λ a. absurd (omega arith)) (λ a. a .1) (rank-said t d (plan t d b) l .0 (plan-ranks-first .first l g h n))
