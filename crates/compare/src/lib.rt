@@ -1,4 +1,5 @@
 // The ranking of two sets by total, then in the order of ties, and the one of them that ranks first.
+#![tactic(auto)]
 ghost use Rattle.std.specs.Prelude.{◌≡◌, ◌+◌, ◌-◌, ◌<◌, length, take};
 ghost use Rattle.laws.specs.Lists.{range};
 ghost use Rattle.model.specs.File.{tree_of, demand_of, count_of};
@@ -9,7 +10,7 @@ ghost use Rattle.compare.specs.Counting.{Counted, Countable, Comparable};
 ghost use Rattle.compare.specs.Answers.{ranking_of, WinnerHandedBack};
 
 // The set that ranks first, or the refusal with its number and record.
-#[derive(Drop)]
+#[derive(Clone, Copy)]
 pub enum Ranking {
     First,
     Second,

@@ -1,11 +1,13 @@
 // The sizes of the tree file, its versions, the table of a record's fields, and the readers that go by it.
+#![tactic(auto)]
+
 ghost use Rattle.std.specs.Prelude.{◌≡◌, ◌+◌, ◌*◌, ◌≤◌, ◌<◌, ◌^◌, leb, length};
 ghost use Rattle.model.specs.File.{number, most_nodes, header_length, version_of, count_of, budget_of, has_ratios, has_open_bytes, record_length, record_at, field_of, tree_of, demand_of};
 ghost use Rattle.model.specs.Bill.{whole, cachable};
 ghost use Rattle.fields.specs.Table.{row_of, field_at, HasField, InFile};
 
 // What an accepted file says of its tree: n, k and h. The associated constants are the tree file's versions, sizes and places.
-#[derive(Drop)]
+#[derive(Clone, Copy)]
 pub struct Tree {
     pub nodes: usize,
     pub budget: usize,
@@ -13,7 +15,7 @@ pub struct Tree {
 }
 
 // A row of the table: where a field stands in its record, how many bytes it has, and its largest value.
-#[derive(Drop)]
+#[derive(Clone, Copy)]
 pub struct Field {
     pub offset: usize,
     pub width: usize,

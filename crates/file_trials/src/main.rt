@@ -3,6 +3,7 @@
 // `NAME check FILE`: `NAME accepted N K H host 0`, or `NAME refused RULE RECORD host RULE`; what the check for a C host
 // says of the same bytes stands after `host`.
 // `NAME record NODE FILE`: `NAME record BYTES`, or `NAME record none` for an empty one.
+#![tactic(auto)]
 use libc::{STDIN_FILENO, STDOUT_FILENO};
 use tree_file::Checked;
 

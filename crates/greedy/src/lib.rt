@@ -1,4 +1,5 @@
 // The greedy rule: each step takes the node where a cache saves most, and updates only the words that this cache changes.
+#![tactic(auto)]
 ghost use Rattle.std.specs.Prelude.{◌≡◌, ◌&&◌, [], suc, ◌+◌, ◌*◌, ◌-◌, ◌≤◌, ◌<◌, ◌^◌, leb, length};
 ghost use Rattle.laws.specs.FirstGreatest.{FirstGreatest};
 ghost use Rattle.model.specs.File.{most_budget, record_length, tree_of, demand_of};
@@ -23,7 +24,7 @@ const REACH: usize = 2;
 const MARK: usize = 3;
 
 // What a step finds: the open node that saves most as a cache and how much it saves, both 0 if none saves.
-#[derive(Drop)]
+#[derive(Clone, Copy)]
 struct Found {
     site: usize,
     saving: Total,

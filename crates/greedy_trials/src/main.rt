@@ -3,6 +3,7 @@
 // `NAME SCRATCH BEYOND TOTALS TAKEN FILE` lends a scratch of so many words and buffers of so many entries, each of them 9:
 // `NAME accepted` or `NAME refused RULE RECORD`, then both buffers, whole, and `kept` if the words of the scratch from BEYOND on
 // are as they were.
+#![tactic(auto)]
 use libc::{STDIN_FILENO, STDOUT_FILENO};
 
 fn print_greedy(totals: &[u64], taken: &[u16]) {

@@ -1,4 +1,5 @@
 // The report program: reads a tree file on standard input and prints its report, or why the file is refused.
+#![tactic(auto)]
 use libc::{STDIN_FILENO, STDOUT_FILENO};
 
 fn main() {

@@ -1,4 +1,5 @@
 // The calls for hosts in C, as include/kterc.h declares them: each slice is a pointer and a length.
+#![tactic(auto)]
 ghost use Rattle.std.specs.Prelude.{◌≡◌};
 ghost use Rattle.model.specs.Rules.{Verdict, broken, ◌then◌, file_verdict, ask_set};
 ghost use Rattle.model.specs.Calls.{answer, check_number, ranking, PlanMemory, plan_verdict, PlanCall, GreedyMemory, greedy_verdict, GreedyCall};

@@ -9,6 +9,7 @@
 // Its answer is `NAME NUMBER`, the number that the call answers, then each array by its name, whole, and `kept` if the words of
 // the scratch from BEYOND on are as they were. Before the call each word of the scratch is 5432123, each entry of TOTAL and
 // TOTALS 987654321, of SERVING, ROWS and ROW 4321, of LOADS and GREEDY_TOTALS 123456789, and of GREEDY_NODES and BUDGET 1234.
+#![tactic(auto)]
 use libc::{STDIN_FILENO, STDOUT_FILENO};
 
 // ---- the calls, and what they leave in what is lent

@@ -1,5 +1,6 @@
 // From a target to a budget: the least budget whose plan total is no larger than the target, and its row of the plan, from the plan's
 // table.
+#![tactic(auto)]
 ghost use Rattle.std.specs.Prelude.{◌≡◌, ◌≤◌, length};
 ghost use Rattle.laws.specs.Fronts.{FrontOnly};
 ghost use Rattle.model.specs.File.{most_budget, tree_of, budget_of};
@@ -17,7 +18,7 @@ use tree_file::Checked;
 use units::Total;
 
 // The least budget; none where every plan costs more than the target; or the refusal.
-#[derive(Drop)]
+#[derive(Clone, Copy)]
 pub enum LeastBudget {
     Budget(u16),
     None,

@@ -6,6 +6,7 @@
 //
 // It writes a line for each difference, and last how many trees or patterns of closed nodes and how many targets it went through;
 // for how many of these there is no budget; and how many refusals by rules 13 and 14 there were.
+#![tactic(auto)]
 ghost use Rattle.std.specs.Prelude.{◌≤◌};
 
 use least_budget::LeastBudget;

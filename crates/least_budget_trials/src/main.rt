@@ -5,6 +5,7 @@
 // none` where every plan costs more than the target, or `NAME refused RULE RECORD`, then `row` and all entries of the row, and
 // whether the words of the scratch from BEYOND on are as they were. Before the call each word of the scratch is 5432123, and each
 // entry of the row 4321.
+#![tactic(auto)]
 use least_budget::LeastBudget;
 use libc::{STDIN_FILENO, STDOUT_FILENO};
 use units::Total;

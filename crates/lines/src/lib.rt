@@ -1,6 +1,7 @@
 // One line of the plan's table: entry n is the least cost of a row of siblings with n caches. It is made from three other lines:
 // that of the children of the row's first node if the node is a cache (`cached`), that of the children if it is none (`uncached`),
 // and that of the node's later siblings (`rest`). A line ends at the budget, or before it where more caches do not fit.
+#![tactic(auto)]
 ghost use Rattle.std.specs.Prelude.{◌≡◌, true, false, map, ◌+◌, ◌-◌, ◌≤◌, ◌<◌, min, length, take};
 ghost use Rattle.std.proofs.lemmas.List.Edits.{sets};
 ghost use Rattle.laws.specs.Lists.{range, part};
@@ -23,7 +24,7 @@ pub fn entry(line: &[u64], n: usize) -> Total
 }
 
 // What a node and its children cost, with the node as a cache and without.
-#[derive(Drop)]
+#[derive(Clone, Copy)]
 struct NodeCosts {
     member: Total,
     other: Total,

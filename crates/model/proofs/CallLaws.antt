@@ -197,9 +197,9 @@ pub calls_lawful : (file : List ℕ) → CallsLawful file
 calls_lawful file =
     record {
       rankings = ranking_said file;
-      billed_is_set = λ set memory h. ((bill_asked_lem file set memory).passes.0 h).1.0;
-      host_billed_is_set = λ set memory h. ((host_bill_asked_lem file set memory).passes.0 h).1.0;
-      ranked_are_sets = λ k l h. ((rank_asked_lem file k l).passes.0 h).1.0;
+      billed_is_set = λ set memory h. ((bill_asked_lem file set memory).passes.0 h).1;
+      host_billed_is_set = λ set memory h. ((host_bill_asked_lem file set memory).passes.0 h).1;
+      ranked_are_sets = λ k l h. ((rank_asked_lem file k l).passes.0 h).1;
       bill_asked = bill_asked_lem file;
       host_bill_asked = host_bill_asked_lem file;
       rank_asked = rank_asked_lem file;

@@ -4,7 +4,7 @@ use mathlib.Core.Bool.{true, or-false}
 use mathlib.Core.List.{List, [], ◌∷◌}
 use Prim.Native.Nat.{ℕ, zero, suc, ◌≤◌, ◌<◌}
 use native.Mathlib.Omega.{arith}
-use lib.ListN.{length, take}
+use lib.ListN.{length, take, get_or}
 use Rattle.laws.specs.Lists.{has}
 use Rattle.model.specs.File.{Tree, Demand}
 use Rattle.model.specs.Rules.{is_set}
@@ -58,10 +58,10 @@ module _ (t : Tree) (d : Demand) where
 
   run_cons : {k g : List ℕ} {v b : ℕ} → Takes t d k v → RunFrom t d (with_node v k) b g → RunFrom t d k (suc b) (v ∷ g)
   unfolding with_nodes
-  run_cons p r =
+  run_cons {k = k} {g = g} {v = v} p r =
       record {
         within = omega arith;
-        steps = λ j. elim j [ zero ↦ λ _. p | suc i ↦ λ l. r.steps i (omega arith) ];
+        steps = λ j. elim j as (λ i. i < length (v ∷ g) → Takes t d (with_nodes k (take i (v ∷ g))) (get_or (v ∷ g) i 0)) [ zero ↦ λ _. p | suc i ↦ λ l. r.steps i (omega arith) ];
         stop = λ l. r.stop (omega arith);
       }
 

@@ -293,7 +293,7 @@ first_alike_lem : (t t' : Tree) (d d' : Demand) → ((k l : List ℕ) → ranks_
     → (k : List ℕ) (ls : List (List ℕ)) → first_of t d k ls ≡ first_of t' d' k ls
 unfolding first_of
 first_alike_lem t t' d d' alike k [] = refl
-first_alike_lem t t' d d' alike k (l ∷ ls) = rw (alike l k) (first_alike_lem t t' d d' alike _ ls)
+first_alike_lem t t' d d' alike k (l ∷ ls) = rw (alike l k) (first_alike_lem t t' d d' alike (cond (ranks_before t' d' l k) l k) ls)
 
 -- ---- a tree with other open sites
 

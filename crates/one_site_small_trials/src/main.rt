@@ -7,6 +7,7 @@
 // It writes a line for each difference, and last how many trees or patterns of closed nodes and how many pairs of a node and a
 // budget it went through; of these, how many have no set with the node, how many have two equal totals, and in how many the plan has
 // the node; and how many refusals by rules 16 and 13 there were.
+#![tactic(auto)]
 ghost use Rattle.std.specs.Prelude.{◌≤◌};
 
 use one_site::WithOrWithout;

@@ -3,6 +3,7 @@
 // `NAME NODE BUDGET SCRATCH BEYOND FILE` lends a scratch of so many words: `NAME with TOTAL without TOTAL`, `NAME none without TOTAL`
 // where no set contains the node, or `NAME refused RULE RECORD`, then whether the words of the scratch from BEYOND on are as they
 // were. Before the call each word of the scratch is 5432123.
+#![tactic(auto)]
 use libc::{STDIN_FILENO, STDOUT_FILENO};
 use one_site::WithOrWithout;
 use units::Total;

@@ -1,4 +1,5 @@
 // The plan: for each budget the caches of the least total, first in the order of ties, read back from the table.
+#![tactic(auto)]
 ghost use Rattle.std.specs.Prelude.{◌≡◌, ◌&&◌, suc, ◌+◌, ◌-◌, ◌*◌, ◌≤◌, ◌<◌, leb, length, set, replicate};
 ghost use Rattle.std.proofs.lemmas.List.Edits.{sets};
 ghost use Rattle.laws.specs.Fronts.{FrontOnly};
@@ -23,7 +24,7 @@ use tree_file::{Checked, Ruling};
 use units::Total;
 
 // How the caches of a row split: how many are among the later siblings, and whether the first node is one of the others.
-#[derive(Drop)]
+#[derive(Clone, Copy)]
 struct Split {
     later: usize,
     member: bool,

@@ -4,6 +4,7 @@
 // that rule 13 asks for; with one less each call is refused.
 //
 // It writes a line for each difference, and last how many trees and how many patterns of closed nodes it went through.
+#![tactic(auto)]
 ghost use Rattle.std.specs.Prelude.{◌≤◌};
 
 use small_trees::SmallTree;

@@ -1,4 +1,5 @@
 // The bill of a set: its total, the serving node of each node and the load on each link.
+#![tactic(auto)]
 ghost use Rattle.std.specs.Prelude.{◌≡◌, cond, true, ◌+◌, ◌≤◌, ◌<◌, ◌^◌, length};
 ghost use Rattle.std.proofs.lemmas.List.Edits.{sets};
 ghost use Rattle.laws.specs.Lists.{has, all_of};
@@ -11,7 +12,7 @@ ghost use Rattle.placement.specs.Answers.{bill_answer, BillWritten};
 ghost use Rattle.placement.specs.Walks.{Begins, NodeWalked, RowWalked, Bounded, Raised};
 
 // The total, or the refusal with its number and record.
-#[derive(Drop)]
+#[derive(Clone, Copy)]
 pub enum Billed {
     Total(units::Total),
     Refused(u8, u16),
@@ -19,7 +20,7 @@ pub enum Billed {
 
 // Nodes that were walked: the node after the last of them, the load above them, and what the clients at or below them
 // send once a cache has served them.
-#[derive(Drop)]
+#[derive(Clone, Copy)]
 struct Walk {
     end: usize,
     load: units::Flow,

@@ -4,6 +4,7 @@
 // `NAME bill SET SERVINGS LOADS FILE` lends buffers of so many entries: `NAME total TOTAL`, or `NAME refused RULE RECORD`, and
 // then both buffers, whole. Before the call each entry of the servings is 4321, and of the loads 987654321.
 // `NAME rank FIRST SECOND FILE`: `NAME first`, `NAME second` or `NAME refused RULE RECORD`, and then the set handed back.
+#![tactic(auto)]
 use compare::Ranking;
 use libc::{STDIN_FILENO, STDOUT_FILENO};
 use placement::Billed;

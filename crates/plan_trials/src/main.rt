@@ -3,6 +3,7 @@
 // `NAME SCRATCH BEYOND TOTALS ROWS FILE` lends a scratch of so many words and buffers of so many entries: `NAME accepted`, or
 // `NAME refused RULE RECORD`, then both buffers, whole, and whether the words of the scratch from BEYOND on are as they were.
 // Before the call each word of the scratch is 5432123, each total 987654321 and each entry of the rows 4321.
+#![tactic(auto)]
 use libc::STDIN_FILENO;
 
 fn answer(file: &[u8], beyond: usize, scratch: &mut [u64], totals: &mut [u64], rows: &mut [u16]) {

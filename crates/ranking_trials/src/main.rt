@@ -4,6 +4,7 @@
 //
 // It writes a line for each difference, and last how many trees or patterns of closed nodes and how many rankings it went through,
 // how many rankings were of two sets with equal totals, and how many refusals by rule 12 there were.
+#![tactic(auto)]
 use compare::Ranking;
 use placement::Billed;
 use small_trees::SmallTree;

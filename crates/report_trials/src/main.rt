@@ -4,6 +4,7 @@
 // `NAME accepted` or `NAME refused RULE RECORD`, then the four buffers, whole, and `kept` if the words of the scratch from
 // BEYOND on are as they were. Before the call each word of the scratch is 5432123, each plan total 987654321, each entry of the
 // rows 4321, each greedy total 123456789 and each entry of the greedy nodes 1234.
+#![tactic(auto)]
 use libc::{STDIN_FILENO, STDOUT_FILENO};
 
 fn print_greedy(totals: &[u64], nodes: &[u16]) {

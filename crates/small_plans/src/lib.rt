@@ -2,6 +2,7 @@
 //
 // Nothing here is shared with the planner, so that a program can set one against the other. What a definition says of
 // every node is written out for the six; a node that the tree lacks has no flow.
+#![tactic(auto)]
 ghost use Rattle.std.specs.Prelude.{◌*◌, ◌≤◌};
 
 use small_trees::SmallTree;
@@ -273,7 +274,7 @@ pub fn scratch_words(tree: SmallTree) -> usize
 // ---- the order of ties, and ranking
 
 // Which of two sets comes first, if a test tells.
-#[derive(Drop)]
+#[derive(Clone, Copy)]
 enum Order {
     First,
     Second,
@@ -388,7 +389,7 @@ pub fn plan(tree: SmallTree, budget: usize) -> u8 {
 // ---- with one node, or without it
 
 // The least total of some sets, if there is such a set.
-#[derive(Drop)]
+#[derive(Clone, Copy)]
 pub enum Least {
     Total(u64),
     NoSet,

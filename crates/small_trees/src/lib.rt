@@ -1,6 +1,7 @@
 // Trees of at most six nodes with their files, and sets of their nodes as masks.
 //
 // Nothing here is shared with the planner. A set is a mask with bit v for node v.
+#![tactic(auto)]
 ghost use Rattle.std.specs.Prelude.{◌≤◌, length};
 
 // What a tree file says of a node. The share of its flow that a cache can serve is a hit ratio in thousandths in version 1,

@@ -4,6 +4,7 @@
 // tree's file, the plan's total and set for each budget, the greedy rule's totals and nodes, the bill of the set that
 // the mask says, for each set in order of masks how many rank before it, the words of scratch that are asked, and for each node
 // and each budget the least totals with the node and without it.
+#![tactic(auto)]
 ghost use Rattle.std.specs.Prelude.{◌≤◌};
 
 use libc::{STDIN_FILENO, STDOUT_FILENO};

@@ -1,5 +1,6 @@
 // The plan's table in the scratch, behind the words of the nodes: a line for each node and each depth of a serving node above it,
 // filled from the last node to the first.
+#![tactic(auto)]
 ghost use Rattle.std.specs.Prelude.{◌≡◌, cond, ◌+◌, ◌*◌, ◌≤◌, ◌<◌, ◌^◌, min, length, get_or};
 ghost use Rattle.model.specs.File.{record_length, count_of, budget_of, tree_of, demand_of};
 ghost use Rattle.model.specs.Bill.{cachable, price};
@@ -70,7 +71,7 @@ pub fn server_line<'a>(s: &'a [u64], starts: &[u32], widths: &[u16]) -> &'a [u64
 // ---- a node's own cost
 
 // The situation of one client: no cache is on its route, or one is, and nothing, everything or a part of its flow is cachable.
-#[derive(Drop)]
+#[derive(Clone, Copy)]
 enum Situation {
     NoCache,
     Nothing,
@@ -145,7 +146,7 @@ pub fn pays_itself(file: &[u8], size: usize, part: Flow, s: &[u64], v: usize) ->
 // ---- a wish for one node
 
 // No wish, or that a node, by its number, is a cache (true), or that it is not (false).
-#[derive(Drop)]
+#[derive(Clone, Copy)]
 pub enum Wish {
     None,
     Node(usize, bool),

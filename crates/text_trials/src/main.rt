@@ -1,5 +1,6 @@
 // Runs the cases of the program's text: a case to each line of standard input, `NAME FILE`, and for each the name on a line of
 // its own and below it the text as it is.
+#![tactic(auto)]
 use libc::{STDIN_FILENO, STDOUT_FILENO};
 
 fn print_text(file: &[u8]) {

@@ -1,4 +1,5 @@
 // The check of a tree file by the rules about the file itself, 1 to 11, 17 and 24; the record of a node; the check for a C host.
+#![tactic(auto)]
 ghost use Rattle.std.specs.Prelude.{◌≡◌, true, false, cond, ◌≤◌, max, leb, length};
 ghost use Rattle.std.specs.Borrow.{u8};
 ghost use Rattle.laws.specs.Lists.{has};
@@ -13,14 +14,14 @@ ghost use Rattle.tree_file.specs.Checks.{verdict_of, answer_of, sizes_of, Climba
 ghost use Rattle.tree_file.specs.Places.{RecordHandedBack};
 
 // No rule broken, or the first broken one: its number and its record.
-#[derive(Drop)]
+#[derive(Clone, Copy)]
 pub enum Ruling {
     Passed,
     Broken(u8, u16),
 }
 
 // An accepted file's n, k and h, or the refusal with its number and record.
-#[derive(Drop)]
+#[derive(Clone, Copy)]
 pub enum Checked {
     Accepted(fields::Tree),
     Refused(u8, u16),

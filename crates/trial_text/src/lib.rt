@@ -2,6 +2,7 @@
 //
 // A word is a name, a number, a list of numbers apart by commas, or a file: pieces of hexadecimal digits apart by `+`,
 // where `*N` after a piece stands for N of it.
+#![tactic(auto)]
 ghost use Rattle.std.specs.Prelude.{◌≡◌, ◌+◌, ◌-◌, ◌≤◌, ◌<◌, length};
 
 use libc::STDOUT_FILENO;

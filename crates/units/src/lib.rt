@@ -1,16 +1,18 @@
 // Distance, flow and total: three units that no sum mixes. Flows, and so totals, count in thousandths.
+#![tactic(auto)]
+
 ghost use Rattle.std.specs.Prelude.{◌≡◌, ◌+◌, ◌-◌, ◌*◌, ◌^◌, ◌<◌, ◌≤◌, min, nat_lt};
 
 // A sum of link lengths.
-#[derive(Drop)]
+#[derive(Clone, Copy)]
 pub struct Distance(pub u64);
 
 // Thousandths of a flow: all of it is 1,000 × f, its cachable part f × p or 1,000 × the cachable bytes.
-#[derive(Drop)]
+#[derive(Clone, Copy)]
 pub struct Flow(pub u64);
 
 // Thousandths of flow over distance.
-#[derive(Drop)]
+#[derive(Clone, Copy)]
 pub struct Total(pub u64);
 
 impl Distance {
