@@ -51,7 +51,7 @@ module _ (w : ℕ) (pay : Bool → ℕ) (children : Bool → ℕ → ℕ) (sibli
   pub held_parts : ((u : Bool) → pay u ≤ cap) → ((u : Bool) (n : ℕ) → children u n ≤ cap) → ((n : ℕ) → siblings n ≤ cap)
       → LineParts cached uncached rest (pay true) (pay false)
   held_parts p c s = record {
-    node_parts_lem = record {
+    node_parts = record {
       cached_line = holds_line (children true) w cached held.cached_is (c true);
       uncached_line = holds_line (children false) w uncached held.uncached_is (c false);
       alike = held.alike;

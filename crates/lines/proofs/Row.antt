@@ -191,7 +191,7 @@ module _ {cached uncached rest node : List ℕ} {member other w own : ℕ} (part
   node_entry n h =
       elim (dec_lt n own) [
         | yes l ↦ node_inside n l
-        | no l ↦ omega (arith, node_past_lem n (omega arith), node_none cached uncached member other n parts.node_parts_lem (omega arith))
+        | no l ↦ omega (arith, node_past_lem n (omega arith), node_none cached uncached member other n parts.node_parts (omega arith))
       ]
 
   row_is_best : (m : ℕ) → m < w → joined_best node rest m ≡ line_best cached uncached rest member other m

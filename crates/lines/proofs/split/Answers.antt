@@ -8,7 +8,7 @@ use Rattle.lines.proofs.split.Goals as goal
 
 pub plus-requires : goal.plus-requires
 unfolding cap
-plus-requires c = omega (arith, c.entry.ensures, c.node_best.ensures, node_within c.args.cached.now c.args.uncached.now c.args.member.0 c.args.other.0 (c.args.m - c.args.r) c.requires.line_parts.node_parts_lem, c.requires.line_parts.rest_line.within c.args.r)
+plus-requires c = omega (arith, c.entry.ensures, c.node_best.ensures, node_within c.args.cached.now c.args.uncached.now c.args.member.0 c.args.other.0 (c.args.m - c.args.r) c.requires.line_parts.node_parts, c.requires.line_parts.rest_line.within c.args.r)
 
 pub returns : goal.returns
 unfolding split line_node
