@@ -9,7 +9,6 @@ use native.Mathlib.Omega.{arith}
 use lib.Dec.{leb, eqb}
 use lib.ListN.{length, get_or-eq_default}
 use borrow.Author.Tests.{leb-true, eqb-true, ne_eqb}
-use Rattle.laws.specs.Lists.{same}
 use Rattle.laws.proofs.Bools.{by_test, not_both, both}
 use Rattle.model.specs.File.{Field, ratio, bytes, number, field_of, has_ratios, has_open_bytes, share_of, tree_of, demand_of, first_version, third_version, header_length, version_of, count_of, budget_of, record_length, record_at, most_nodes, most_budget, most_depth, most_length, most_flow, parent_field, length_field, flow_field, hit_field, cachable_field, open_field, open_of}
 use Rattle.model.specs.Tree.{depth}

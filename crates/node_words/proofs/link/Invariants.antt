@@ -1,12 +1,7 @@
 -- `link`: stores the first child and the next sibling of each node.
-use mathlib.Core.Path.{◌≡◌}
 use Prim.Native.Nat.{◌<◌}
-use native.Mathlib.Omega.{arith}
-use borrow.Author.Rules.{rules}
 use Rattle.model.specs.File.{tree_of}
 use Rattle.node_words.specs.Words.{NodeRoom, Linked, LinksOnly}
-use Rattle.node_words.proofs.Words.{room_some, room_header, room_kept}
-use Rattle.node_words.proofs.Links.{links_only_none, links_only_then, linked_last}
 use Rattle.node_words.proofs.link.Given as goal
 
 abbrev pub invariant-loop-v : goal.invariant-loop-v

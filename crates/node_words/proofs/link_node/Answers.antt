@@ -1,6 +1,5 @@
 -- `link_node`: puts node `v` in front of the list of its parent's children.
 use native.Mathlib.Omega.{arith}
-use borrow.Author.Rules.{rules}
 use Rattle.node_words.proofs.Words.{room_record, room_above}
 use Rattle.node_words.proofs.Links.{linked_site}
 use Rattle.node_words.proofs.link_node.Goals as goal

@@ -1,14 +1,8 @@
 -- `measure`: stores the distance and the depth of each node.
-use mathlib.Core.Path.{◌≡◌}
 use Prim.Native.Nat.{◌*◌, ◌-◌, ◌≤◌, ◌<◌}
-use native.Mathlib.Omega.{arith}
-use borrow.Author.Rules.{rules}
 use Rattle.laws.specs.Fronts.{FrontOnly}
-use Rattle.laws.proofs.Fronts.{front_only_none, front_only_then}
 use Rattle.model.specs.File.{tree_of}
 use Rattle.node_words.specs.Words.{node_words, NodeRoom, Measured}
-use Rattle.node_words.proofs.Words.{room_some, room_header, room_kept}
-use Rattle.node_words.proofs.Measures.{measured_server}
 use Rattle.node_words.proofs.measure.Given as goal
 
 abbrev pub invariant-loop-v : goal.invariant-loop-v

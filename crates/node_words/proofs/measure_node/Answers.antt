@@ -2,7 +2,6 @@
 use mathlib.Core.Path.{ap, ap₂, ◌∙◌}
 use Prim.Native.Nat.{◌+◌}
 use native.Mathlib.Omega.{arith}
-use borrow.Author.Rules.{rules}
 use Rattle.node_words.proofs.Words.{room_record, room_above}
 use Rattle.node_words.proofs.Measures.{measured_small, measured_site}
 use Rattle.node_words.proofs.measure_node.Goals as goal

@@ -1,5 +1,4 @@
 -- `note_nodes`: stores the four words of each node, and changes nothing behind them.
-use borrow.Author.Rules.{rules}
 use Rattle.laws.proofs.Fronts.{front_only_then}
 use Rattle.node_words.proofs.Words.{room_kept}
 use Rattle.node_words.proofs.Links.{node_words_hold}

@@ -1,5 +1,4 @@
 -- `program_text`: what the program prints, for every input.
-use borrow.Author.Rules.{rules}
 use mathlib.Core.Path.{sym, ap, ◌∙◌}
 use Rattle.tree_file.specs.Checks.{answer_of}
 use Rattle.report_text.proofs.Texts.{accepted_answer, accepted_text, refused_text}

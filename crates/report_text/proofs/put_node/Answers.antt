@@ -1,5 +1,4 @@
 -- `put_node`: appends an entry of a row, and nothing where it is 0.
-use borrow.Author.Rules.{rules}
 use Rattle.report_text.specs.Lines.{word_room}
 use Rattle.report_text.proofs.Rooms.{within_none}
 use Rattle.report_text.proofs.Words.{zero_no_word, node_one_word}

@@ -1,12 +1,12 @@
 -- `put_nodes`: appends the nodes of a row.
 use mathlib.Core.Path.{◌≡◌}
 use mathlib.Core.List.{flat_map}
-use Prim.Native.Nat.{◌*◌, ◌-◌, ◌≤◌}
+use Prim.Native.Nat.{◌*◌}
 use native.Mathlib.Omega.{arith}
 use borrow.Author.Rules.{rules}
-use Rattle.laws.specs.Lists.{part, those}
+use Rattle.laws.specs.Lists.{those}
 use Rattle.text_bytes.proofs.Appended.{append_keeps_length}
-use Rattle.report_text.specs.Lines.{words, is_node, word_room, AppendedWithin}
+use Rattle.report_text.specs.Lines.{word_room}
 use Rattle.report_text.proofs.Rooms.{within_none, within_next}
 use Rattle.report_text.proofs.Words.{words_snoc}
 use Rattle.report_text.proofs.put_nodes.Goals as goal

@@ -1,6 +1,5 @@
 -- `put_number`: appends a number in decimal digits.
 use native.Mathlib.Omega.{arith}
-use borrow.Author.Rules.{rules}
 use Rattle.model.proofs.Decimals.{decimal_of_word}
 use Rattle.report_text.proofs.put_number.Goals as goal
 

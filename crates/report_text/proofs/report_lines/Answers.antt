@@ -1,5 +1,4 @@
 -- `report_lines`: the text of a report, by value.
-use borrow.Author.Rules.{rules}
 use native.Mathlib.Omega.{arith}
 use Rattle.report_text.proofs.Texts.{appended_prints, memory_reported, memory_lines}
 use Rattle.report_text.proofs.report_lines.Goals as goal
