@@ -1,6 +1,6 @@
 #!/usr/bin/env python3
 """Brings the repository's own names to the spelling of today's Rattle, once, after port.py: definitions, fields, constructors and
-lemmas in snake case (`planTotal` is plan_total, `words-fewer` is words_fewer). Types and modules keep their camel case, functions of
+lemmas in snake case (`planTotal` is plan_total, `words-fewer` is words_fewer). A field that a definition of specs/ has keeps to that. Types and modules keep their camel case, functions of
 src/, exported names, strings, inputs and outputs theirs, and so do the names that Rattle makes (`loop-i-preserved`) and those of its
 library. Where a lemma would have the name of a definition or a field, it gets `_lem`.
 
@@ -24,6 +24,7 @@ def read(path):
 
 
 def snake(name):
+    name = re.sub(r"([A-Z])(?=[A-Z][a-z])", r"\1_", name)
     return re.sub(r"(?<=[a-z0-9'])([A-Z])", lambda m: "_" + m[1], name).lower().replace("-", "_")
 
 
@@ -89,7 +90,7 @@ def main(root):
             if w in camel:
                 return camel[w]
             if (ghost or "-" in w) and w in dashed and before != ".":
-                return dashed[w]
+                return snake(w) if "/specs/" in p else dashed[w]
             return w
 
         return NAME.sub(one, text[p])

@@ -75,7 +75,7 @@ worked = record {
     widths = refl;
     mosts = refl;
     bytes_of_a = refl;
-    file_apasses = refl;
+    file_a_passes = refl;
     eight_bytes = refl;
     nine_bytes = refl;
     mark_first = refl;
@@ -119,7 +119,7 @@ worked = record {
     server_hit = refl;
   };
   second = record {
-    second_apasses = refl;
+    second_a_passes = refl;
     byte_over = refl;
     byte_under = refl;
     short_records = refl;
@@ -179,7 +179,7 @@ worked = record {
     };
   };
   third = record {
-    third_apasses = refl;
+    third_a_passes = refl;
     byte_over = refl;
     byte_under = refl;
     short_records = refl;

@@ -14,7 +14,7 @@ use Rattle.model.specs.Samples.{file_a, second_a, second_header, twelve_bytes, s
 -- ---- 02, item 2: questions 1 to 10 and 17 of a file with cachable bytes, and its bill and plan
 
 pub record SecondCases : Type 0 where
-  pub second_apasses : file_verdict second_a ≡ passed
+  pub second_a_passes : file_verdict second_a ≡ passed
   -- 6 by the longer record: a byte too many, too few; version 2 over the length of version 1, and the other way round
   pub byte_over : file_verdict (second_a ++ (0x00 ∷ [])) ≡ broken 6 0
   pub byte_under : file_verdict (take 68 second_a) ≡ broken 6 0
@@ -85,7 +85,7 @@ pub record SecondCases : Type 0 where
 -- ---- 02, item 9: questions 1 to 10, 17 and 24 of a file with open and closed nodes, its sets, bill, plan and greedy rule
 
 pub record ThirdCases : Type 0 where
-  pub third_apasses : file_verdict third_a ≡ passed
+  pub third_a_passes : file_verdict third_a ≡ passed
   -- 6 "counts 13-byte records": a byte too many, too few; version 3 over the length of version 2, and the other way round
   pub byte_over : file_verdict (third_a ++ (0x00 ∷ [])) ≡ broken 6 0
   pub byte_under : file_verdict (take 73 third_a) ≡ broken 6 0

@@ -23,7 +23,7 @@ pub record FileCases : Type 0 where
   pub mosts : map (λ f. f.most) field_table ≡ 1023 ∷ 1000 ∷ 100_000_000 ∷ 1000 ∷ 100_000_000 ∷ 1 ∷ []
   -- the bytes of tree A as the starred cases have them
   pub bytes_of_a : tree_a 20 1000 5 800 ≡ file_a
-  pub file_apasses : file_verdict file_a ≡ passed
+  pub file_a_passes : file_verdict file_a ≡ passed
   -- "8 bytes: 1"
   pub eight_bytes : file_verdict (take 8 file_a) ≡ broken 1 0
   pub nine_bytes : file_verdict (take 9 file_a) ≡ broken 6 0
