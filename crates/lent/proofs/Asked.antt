@@ -29,7 +29,7 @@ module _ (file : List ℕ) where
 
     pub scratch_held : (words : ℕ) → leb (scratch_words file) words ≡ true → answered sizes ≡ answer (lent_verdict file words) (sizes_of file)
     unfolding lent_verdict
-    scratch_held words h = let of = answered_sizes e in rw (of.accepted, h, of.of-file)
+    scratch_held words h = let of = answered_sizes e in rw (of.accepted, h, of.of_file_lem)
 
     pub scratch_short_lem : (words : ℕ) → leb (scratch_words file) words ≡ false → refused 13 0 ≡ answer (lent_verdict file words) (sizes_of file)
     unfolding lent_verdict

@@ -40,7 +40,7 @@ module _ (file : List ℕ) (v b words : ℕ) where
     holds = leb 1 v && ltb v sizes.nodes && leb b sizes.budget
 
     holds_is : {x : Bool} → holds ≡ x → (leb 1 v && ltb v (count_of file) && leb b (budget_of file)) ≡ x
-    holds_is h = rw (answered_sizes file e).of-file at h
+    holds_is h = rw (answered_sizes file e).of_file_lem at h
 
     pub node_refused : holds ≡ false → refused 16 0 ≡ answer (site_verdict file v b words) (sizes_of file)
     unfolding site_verdict
@@ -52,7 +52,7 @@ module _ (file : List ℕ) (v b words : ℕ) where
 
     pub site_accepted : holds ≡ true → leb (scratch_words file) words ≡ true → answered sizes ≡ answer (site_verdict file v b words) (sizes_of file)
     unfolding site_verdict
-    site_accepted h k = let of = answered_sizes file e in rw (of.accepted, holds_is h, k, of.of-file)
+    site_accepted h k = let of = answered_sizes file e in rw (of.accepted, holds_is h, k, of.of_file_lem)
 
   pub site_unasked : {q i : ℕ} → refused q i ≡ answer (file_verdict file) (sizes_of file) → refused q i ≡ answer (site_verdict file v b words) (sizes_of file)
   unfolding site_verdict

@@ -1,5 +1,6 @@
 // The check of a tree file by the rules about the file itself, 1 to 11, 17 and 24; the record of a node; the check for a C host.
 #![tactic(auto)]
+
 ghost use Rattle.std.specs.Prelude.{◌≡◌, true, false, cond, ◌≤◌, max, leb, length};
 ghost use Rattle.std.specs.Borrow.{u8};
 ghost use Rattle.laws.specs.Lists.{has};

@@ -1,22 +1,41 @@
-use Rattle.std.proofs.Common.{rules, ◌≡◌, ◌+◌, ◌*◌, ◌≤◌, ◌<◌, ◌^◌, leb, length, ℕ, ◌-◌, ◌/◌, ◌%◌, Bool, true, false, nat_eq, nat_lt, List, [], ◌∷◌, ◌++◌, slice_index_or, slice_set, bit_and, bit_or, Fits, w8, w32, w64, Bor, MutBor}
-use Rattle.model.specs.File.{number, most_nodes, header_length, version_of, count_of, budget_of, has_ratios, has_open_bytes, record_length, record_at, field_of, tree_of, demand_of}
-use Rattle.model.specs.Bill.{whole, cachable}
-use Rattle.fields.specs.Table.{row_of, field_at, HasField, InFile}
+-- `cachable_in`: the part of it that a cache can serve, where records have `size` bytes.
+use mathlib.Core.Path.{◌≡◌, sym, ap, ap₂, ◌∙◌}
+use mathlib.Core.Bool.{true, false}
+use Prim.Native.Nat.{ℕ, ◌*◌, ◌-◌, ◌^◌}
+use native.Mathlib.Nat.{mul-le-mul}
+use native.Mathlib.Omega.{arith}
+use Rattle.model.specs.File.{has_ratios}
+use Rattle.model.specs.Bill.{thousandths}
+use Rattle.model.proofs.Accepted.{ratio_told, bytes_told}
+use Rattle.model.proofs.Amounts.{cachable_ratio, cachable_bytes}
+use Rattle.fields.proofs.Table.{has_hit, has_cachable}
 use Rattle.fields.proofs.cachable_in.Goals as goal
 
--- src/lib.rt:250:57
-pub field_in-requires-then-size-eq-RATIO_RECORD-clause-has_field :
-    goal.field_in-requires-then-size-eq-RATIO_RECORD-clause-has_field
-field_in-requires-then-size-eq-RATIO_RECORD-clause-has_field c = ?
+pub field_in-requires-then-size-eq-RATIO_RECORD : goal.field_in-requires-then-size-eq-RATIO_RECORD
+field_in-requires-then-size-eq-RATIO_RECORD c =
+    let ratios : has_ratios c.args.file.now ≡ true = ratio_told _ (sym c.requires.size_value ∙ c.if-size-eq-RATIO_RECORD.true) in
+    record {
+      size_value = c.requires.size_value;
+      has_field = (has_hit _ ratios, c.requires.in_file);
+    }
 
--- src/lib.rt:249:9
+pub overflow_mul-result : goal.overflow_mul-result
+overflow_mul-result c = omega (arith, mul-le-mul {n₁ = c.field_in.result} {m₁ = c.field_in-then-size-eq-RATIO_RECORD.result} {n₂ = 2 ^ 32 - 1} {m₂ = 2 ^ 32 - 1} (omega arith) (omega arith))
+
 pub returns-then-size-eq-RATIO_RECORD : goal.returns-then-size-eq-RATIO_RECORD
-returns-then-size-eq-RATIO_RECORD c = ?
+returns-then-size-eq-RATIO_RECORD c =
+    let ratios : has_ratios c.args.file.now ≡ true = ratio_told _ (sym c.requires.size_value ∙ c.if-size-eq-RATIO_RECORD.true) in
+    ap₂ ◌*◌ c.field_in.ensures.value c.field_in-then-size-eq-RATIO_RECORD.ensures.value ∙ sym (cachable_ratio _ _ ratios)
 
--- src/lib.rt:253:38
-pub field_in-requires-2-clause-has_field : goal.field_in-requires-2-clause-has_field
-field_in-requires-2-clause-has_field c = ?
+pub field_in-requires-2 : goal.field_in-requires-2
+field_in-requires-2 c =
+    let no_ratios : has_ratios c.args.file.now ≡ false = bytes_told _ (λ e. c.if-size-eq-RATIO_RECORD.false (c.requires.size_value ∙ e)) in
+    record {
+      size_value = c.requires.size_value;
+      has_field = (has_cachable _ no_ratios, c.requires.in_file);
+    }
 
--- src/lib.rt:243:1
 pub returns : goal.returns
-returns c = ?
+returns c =
+    let no_ratios : has_ratios c.args.file.now ≡ false = bytes_told _ (λ e. c.if-size-eq-RATIO_RECORD.false (c.requires.size_value ∙ e)) in
+    ap (λ (x : ℕ). thousandths * x) c.field_in-2.ensures.value ∙ sym (cachable_bytes _ _ no_ratios)
