@@ -3,6 +3,7 @@
 // A word is a name, a number, a list of numbers apart by commas, or a file: pieces of hexadecimal digits apart by `+`,
 // where `*N` after a piece stands for N of it.
 #![tactic(auto)]
+
 ghost use Rattle.std.specs.Prelude.{◌≡◌, ◌+◌, ◌-◌, ◌≤◌, ◌<◌, length, IfOk};
 
 use std::io;
@@ -370,12 +371,7 @@ pub fn print_count<W: Write>(out: &mut W, what: &[u8], count: u64) -> io::Result
 }
 
 // Prints a line that something of tree i of a sequence differs at a budget, a node or a set.
-pub fn print_difference<W: Write>(
-    out: &mut W,
-    i: u64,
-    at: usize,
-    what: &[u8],
-) -> io::Result<()> {
+pub fn print_difference<W: Write>(out: &mut W, i: u64, at: usize, what: &[u8]) -> io::Result<()> {
     out.write_all(b"tree")?;
     print_number(out, i)?;
     out.write_all(b" at")?;
