@@ -4,8 +4,9 @@
 // says of the same bytes stands after `host`.
 // `NAME record NODE FILE`: `NAME record BYTES`, or `NAME record none` for an empty one.
 #![tactic(auto)]
-use std::io::{BufWriter, Write};
+
 use std::io;
+use std::io::{BufWriter, Write};
 use tree_file::Checked;
 
 fn print_accepted<W: Write>(out: &mut W, tree: fields::Tree) -> io::Result<()> {

@@ -4,8 +4,9 @@
 // `NAME accepted` or `NAME refused RULE RECORD`, then both buffers, whole, and `kept` if the words of the scratch from BEYOND on
 // are as they were.
 #![tactic(auto)]
-use std::io::{BufWriter, Write};
+
 use std::io;
+use std::io::{BufWriter, Write};
 
 fn print_greedy<W: Write>(out: &mut W, totals: &[u64], taken: &[u16]) -> io::Result<()> {
     out.write_all(b" totals")?;
@@ -14,7 +15,14 @@ fn print_greedy<W: Write>(out: &mut W, totals: &[u64], taken: &[u16]) -> io::Res
     trial_text::print_numbers(out, taken)
 }
 
-fn answer<W: Write>(out: &mut W, file: &[u8], beyond: usize, scratch: &mut [u64], totals: &mut [u64], taken: &mut [u16]) -> io::Result<()> {
+fn answer<W: Write>(
+    out: &mut W,
+    file: &[u8],
+    beyond: usize,
+    scratch: &mut [u64],
+    totals: &mut [u64],
+    taken: &mut [u16],
+) -> io::Result<()> {
     trial_text::print_ruling(out, greedy::greedy(file, scratch, totals, taken))?;
     print_greedy(out, totals, taken)?;
     trial_text::print_kept(out, scratch, beyond, 9)

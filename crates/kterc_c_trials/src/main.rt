@@ -10,8 +10,9 @@
 // the scratch from BEYOND on are as they were. Before the call each word of the scratch is 5432123, each entry of TOTAL and
 // TOTALS 987654321, of SERVING, ROWS and ROW 4321, of LOADS and GREEDY_TOTALS 123456789, and of GREEDY_NODES and BUDGET 1234.
 #![tactic(auto)]
-use std::io::{BufWriter, Write};
+
 use std::io;
+use std::io::{BufWriter, Write};
 
 // ---- the calls, and what they leave in what is lent
 
@@ -65,7 +66,10 @@ fn answer_greedy<W: Write>(
     totals: &mut [u64],
     greedy_nodes: &mut [u16],
 ) -> io::Result<()> {
-    print_code(out, kterc_c::kterc_greedy(file, scratch, totals, greedy_nodes))?;
+    print_code(
+        out,
+        kterc_c::kterc_greedy(file, scratch, totals, greedy_nodes),
+    )?;
     show_totals(out, b" totals", totals)?;
     show_nodes(out, b" greedy_nodes", greedy_nodes)?;
     trial_text::print_kept(out, scratch, beyond, 5432123)
@@ -81,7 +85,10 @@ fn answer_report<W: Write>(
     greedy_totals: &mut [u64],
     greedy_nodes: &mut [u16],
 ) -> io::Result<()> {
-    print_code(out, kterc_c::kterc_report(file, scratch, totals, rows, greedy_totals, greedy_nodes))?;
+    print_code(
+        out,
+        kterc_c::kterc_report(file, scratch, totals, rows, greedy_totals, greedy_nodes),
+    )?;
     show_totals(out, b" totals", totals)?;
     show_nodes(out, b" rows", rows)?;
     show_totals(out, b" greedy_totals", greedy_totals)?;
@@ -98,7 +105,10 @@ fn answer_with_without<W: Write>(
     scratch: &mut [u64],
     totals: &mut [u64],
 ) -> io::Result<()> {
-    print_code(out, kterc_c::kterc_with_without(file, node, budget, scratch, totals))?;
+    print_code(
+        out,
+        kterc_c::kterc_with_without(file, node, budget, scratch, totals),
+    )?;
     show_totals(out, b" totals", totals)?;
     trial_text::print_kept(out, scratch, beyond, 5432123)
 }
@@ -112,7 +122,10 @@ fn answer_target<W: Write>(
     budget: &mut [u16],
     row: &mut [u16],
 ) -> io::Result<()> {
-    print_code(out, kterc_c::kterc_target(file, target, scratch, budget, row))?;
+    print_code(
+        out,
+        kterc_c::kterc_target(file, target, scratch, budget, row),
+    )?;
     show_nodes(out, b" budget", budget)?;
     show_nodes(out, b" row", row)?;
     trial_text::print_kept(out, scratch, beyond, 5432123)

@@ -7,12 +7,13 @@
 // It writes a line for each difference, and last how many trees or patterns of closed nodes and how many targets it went through;
 // for how many of these there is no budget; and how many refusals by rules 13 and 14 there were.
 #![tactic(auto)]
+
 ghost use Rattle.std.specs.Prelude.{◌≤◌};
 
 use least_budget::LeastBudget;
 use small_trees::SmallTree;
-use std::io::{BufWriter, Write};
 use std::io;
+use std::io::{BufWriter, Write};
 use units::Total;
 
 // ---- the reference
@@ -86,7 +87,15 @@ fn found_budget(answer: LeastBudget) -> usize {
 }
 
 // The budget and the row against the reference. Each entry of the row was 7, which is no node.
-fn check_answer<W: Write>(out: &mut W, i: u64, k: usize, plans: Plans, target: u64, budget: usize, row: &[u16]) -> io::Result<()>
+fn check_answer<W: Write>(
+    out: &mut W,
+    i: u64,
+    k: usize,
+    plans: Plans,
+    target: u64,
+    budget: usize,
+    row: &[u16],
+) -> io::Result<()>
     requires { k ≤ 6 }
 {
     let wanted = least_within(plans, k, target);
@@ -182,7 +191,17 @@ fn check_target<W: Write>(
     requires { k ≤ 6 }
 {
     let mut row = [7u16; 6];
-    check_lent(out, i, k, plans, target, file, scratch, &mut row[0..k], so_far)
+    check_lent(
+        out,
+        i,
+        k,
+        plans,
+        target,
+        file,
+        scratch,
+        &mut row[0..k],
+        so_far,
+    )
 }
 
 fn one_less(total: u64) -> u64 {
@@ -310,7 +329,15 @@ fn check_refused<W: Write>(
 }
 
 // One word less than is asked, one entry less, and both: rule 13 comes before rule 14.
-fn check_short<W: Write>(out: &mut W, i: u64, words: usize, k: usize, file: &[u8], target: u64, so_far: Count) -> io::Result<Count>
+fn check_short<W: Write>(
+    out: &mut W,
+    i: u64,
+    words: usize,
+    k: usize,
+    file: &[u8],
+    target: u64,
+    so_far: Count,
+) -> io::Result<Count>
     requires { (words ≤ 234) × (k ≤ 6) }
 {
     if words == 0 {
@@ -325,7 +352,15 @@ fn check_short<W: Write>(out: &mut W, i: u64, words: usize, k: usize, file: &[u8
 }
 
 // The words and entries beyond those asked stay as they were.
-fn check_beyond<W: Write>(out: &mut W, i: u64, words: usize, k: usize, plans: Plans, file: &[u8], target: u64) -> io::Result<()>
+fn check_beyond<W: Write>(
+    out: &mut W,
+    i: u64,
+    words: usize,
+    k: usize,
+    plans: Plans,
+    file: &[u8],
+    target: u64,
+) -> io::Result<()>
     requires { k ≤ 6 }
 {
     let mut scratch = [7u64; 300];

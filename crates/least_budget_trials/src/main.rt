@@ -6,9 +6,10 @@
 // whether the words of the scratch from BEYOND on are as they were. Before the call each word of the scratch is 5432123, and each
 // entry of the row 4321.
 #![tactic(auto)]
+
 use least_budget::LeastBudget;
-use std::io::{BufWriter, Write};
 use std::io;
+use std::io::{BufWriter, Write};
 use units::Total;
 
 fn print_answer<W: Write>(out: &mut W, answer: LeastBudget) -> io::Result<()> {
@@ -27,7 +28,14 @@ fn print_answer<W: Write>(out: &mut W, answer: LeastBudget) -> io::Result<()> {
     Ok(())
 }
 
-fn answer<W: Write>(out: &mut W, file: &[u8], target: Total, beyond: usize, scratch: &mut [u64], row: &mut [u16]) -> io::Result<()> {
+fn answer<W: Write>(
+    out: &mut W,
+    file: &[u8],
+    target: Total,
+    beyond: usize,
+    scratch: &mut [u64],
+    row: &mut [u16],
+) -> io::Result<()> {
     print_answer(out, least_budget::from_target(file, target, scratch, row))?;
     out.write_all(b" row")?;
     trial_text::print_numbers(out, row)?;

@@ -8,13 +8,14 @@
 // budget it went through; of these, how many have no set with the node, how many have two equal totals, and in how many the plan has
 // the node; and how many refusals by rules 16 and 13 there were.
 #![tactic(auto)]
+
 ghost use Rattle.std.specs.Prelude.{◌≤◌};
 
 use one_site::WithOrWithout;
 use small_plans::Least;
 use small_trees::SmallTree;
-use std::io::{BufWriter, Write};
 use std::io;
+use std::io::{BufWriter, Write};
 
 // ---- the two totals
 
@@ -53,7 +54,14 @@ fn total_of(least: Least) -> u64 {
 }
 
 // Both totals against the reference.
-fn check_least<W: Write>(out: &mut W, i: u64, tree: SmallTree, v: usize, b: usize, both: Both) -> io::Result<()> {
+fn check_least<W: Write>(
+    out: &mut W,
+    i: u64,
+    tree: SmallTree,
+    v: usize,
+    b: usize,
+    both: Both,
+) -> io::Result<()> {
     if both.with != total_of(small_plans::least_with(tree, v, b)) {
         trial_text::print_difference(out, i, v, b" least total with the node")?;
     }
@@ -89,7 +97,13 @@ fn lesser(both: Both) -> u64 {
     }
 }
 
-fn check_beside_plan<W: Write>(out: &mut W, i: u64, v: usize, both: Both, plan: Plan) -> io::Result<()> {
+fn check_beside_plan<W: Write>(
+    out: &mut W,
+    i: u64,
+    v: usize,
+    both: Both,
+    plan: Plan,
+) -> io::Result<()> {
     if lesser(both) != plan.total {
         trial_text::print_difference(out, i, v, b" lesser total")?;
     }
@@ -227,7 +241,14 @@ fn check_budgets<W: Write>(
 }
 
 // Lends just the words of scratch that are asked.
-fn check_answers<W: Write>(out: &mut W, i: u64, tree: SmallTree, k: usize, file: &[u8], so_far: Count) -> io::Result<Count>
+fn check_answers<W: Write>(
+    out: &mut W,
+    i: u64,
+    tree: SmallTree,
+    k: usize,
+    file: &[u8],
+    so_far: Count,
+) -> io::Result<Count>
     requires { k ≤ 6 }
 {
     let words = small_plans::scratch_words(tree);
@@ -259,7 +280,15 @@ fn is_refused(answer: WithOrWithout, rule: u8) -> bool {
 }
 
 // A refusal by this rule, which leaves the scratch as it was.
-fn check_refusal<W: Write>(out: &mut W, i: u64, file: &[u8], v: usize, b: usize, scratch: &mut [u64], rule: u8) -> io::Result<()> {
+fn check_refusal<W: Write>(
+    out: &mut W,
+    i: u64,
+    file: &[u8],
+    v: usize,
+    b: usize,
+    scratch: &mut [u64],
+    rule: u8,
+) -> io::Result<()> {
     if !is_refused(one_site::with_or_without(file, v, b, scratch), rule) {
         trial_text::print_difference(out, i, v, b" refusal")?;
     }
@@ -270,7 +299,12 @@ fn check_refusal<W: Write>(out: &mut W, i: u64, file: &[u8], v: usize, b: usize,
 }
 
 // The nodes next to those of the tree, one of them with no scratch: rule 16 comes before rule 13.
-fn check_wrong_nodes<W: Write>(out: &mut W, i: u64, tree: SmallTree, file: &[u8]) -> io::Result<()> {
+fn check_wrong_nodes<W: Write>(
+    out: &mut W,
+    i: u64,
+    tree: SmallTree,
+    file: &[u8],
+) -> io::Result<()> {
     let mut scratch = [7u64; 300];
     check_refusal(out, i, file, 0, 0, &mut scratch, 16)?;
     check_refusal(out, i, file, tree.nodes, 0, &mut scratch, 16)?;
@@ -278,7 +312,13 @@ fn check_wrong_nodes<W: Write>(out: &mut W, i: u64, tree: SmallTree, file: &[u8]
 }
 
 // The budget above k, and one word less than is asked.
-fn check_wrong_numbers<W: Write>(out: &mut W, i: u64, tree: SmallTree, k: usize, file: &[u8]) -> io::Result<()>
+fn check_wrong_numbers<W: Write>(
+    out: &mut W,
+    i: u64,
+    tree: SmallTree,
+    k: usize,
+    file: &[u8],
+) -> io::Result<()>
     requires { k ≤ 6 }
 {
     let mut scratch = [7u64; 300];
@@ -291,7 +331,13 @@ fn check_wrong_numbers<W: Write>(out: &mut W, i: u64, tree: SmallTree, k: usize,
 }
 
 // The words beyond those asked stay as they were.
-fn check_beyond<W: Write>(out: &mut W, i: u64, tree: SmallTree, k: usize, file: &[u8]) -> io::Result<()> {
+fn check_beyond<W: Write>(
+    out: &mut W,
+    i: u64,
+    tree: SmallTree,
+    k: usize,
+    file: &[u8],
+) -> io::Result<()> {
     let mut scratch = [7u64; 300];
     check_least(
         out,
@@ -308,7 +354,13 @@ fn check_beyond<W: Write>(out: &mut W, i: u64, tree: SmallTree, k: usize, file: 
 }
 
 // Answers how many refusals there were.
-fn check_borders<W: Write>(out: &mut W, i: u64, tree: SmallTree, k: usize, file: &[u8]) -> io::Result<u64>
+fn check_borders<W: Write>(
+    out: &mut W,
+    i: u64,
+    tree: SmallTree,
+    k: usize,
+    file: &[u8],
+) -> io::Result<u64>
     requires { k ≤ 6 }
 {
     check_wrong_nodes(out, i, tree, file)?;

@@ -4,9 +4,10 @@
 // where no set contains the node, or `NAME refused RULE RECORD`, then whether the words of the scratch from BEYOND on are as they
 // were. Before the call each word of the scratch is 5432123.
 #![tactic(auto)]
+
 use one_site::WithOrWithout;
-use std::io::{BufWriter, Write};
 use std::io;
+use std::io::{BufWriter, Write};
 use units::Total;
 
 fn print_total<W: Write>(out: &mut W, what: &[u8], total: Total) -> io::Result<()> {
@@ -31,7 +32,14 @@ fn print_answer<W: Write>(out: &mut W, answer: WithOrWithout) -> io::Result<()> 
     Ok(())
 }
 
-fn answer<W: Write>(out: &mut W, file: &[u8], node: usize, b: usize, beyond: usize, scratch: &mut [u64]) -> io::Result<()> {
+fn answer<W: Write>(
+    out: &mut W,
+    file: &[u8],
+    node: usize,
+    b: usize,
+    beyond: usize,
+    scratch: &mut [u64],
+) -> io::Result<()> {
     print_answer(out, one_site::with_or_without(file, node, b, scratch))?;
     trial_text::print_kept(out, scratch, beyond, 5432123)
 }

@@ -5,11 +5,12 @@
 //
 // It writes a line for each difference, and last how many trees and how many patterns of closed nodes it went through.
 #![tactic(auto)]
+
 ghost use Rattle.std.specs.Prelude.{◌≤◌};
 
 use small_trees::SmallTree;
-use std::io::{BufWriter, Write};
 use std::io;
+use std::io::{BufWriter, Write};
 use tree_file::Ruling;
 
 // Is there too little scratch?
@@ -31,7 +32,15 @@ fn is_accepted(ruling: Ruling) -> bool {
 // ---- the report at each budget
 
 // The plan's set and total at b, and the loads times lengths of the set that the row holds.
-fn check_plan<W: Write>(out: &mut W, i: u64, tree: SmallTree, b: usize, k: usize, totals: &[u64], rows: &[u16]) -> io::Result<()>
+fn check_plan<W: Write>(
+    out: &mut W,
+    i: u64,
+    tree: SmallTree,
+    b: usize,
+    k: usize,
+    totals: &[u64],
+    rows: &[u16],
+) -> io::Result<()>
     requires { (b ≤ 6) × (k ≤ 6) }
 {
     let set = small_plans::plan(tree, b);
@@ -50,7 +59,15 @@ fn check_plan<W: Write>(out: &mut W, i: u64, tree: SmallTree, b: usize, k: usize
 }
 
 // The greedy rule's total at b, and the node that it takes there.
-fn check_step<W: Write>(out: &mut W, i: u64, tree: SmallTree, b: usize, k: usize, totals: &[u64], greedy_nodes: &[u16]) -> io::Result<()> {
+fn check_step<W: Write>(
+    out: &mut W,
+    i: u64,
+    tree: SmallTree,
+    b: usize,
+    k: usize,
+    totals: &[u64],
+    greedy_nodes: &[u16],
+) -> io::Result<()> {
     let set = small_plans::greedy(tree, b);
     if trial_buffers::total_at(totals, b) != small_plans::total(tree, set) {
         trial_text::print_difference(out, i, b, b" greedy total")?;
@@ -115,7 +132,14 @@ fn check_beyond<W: Write>(
 }
 
 // Does the plan call leave the same in its buffers as the report, and the scratch beyond the words asked as it was?
-fn check_plan_call<W: Write>(out: &mut W, i: u64, file: &[u8], words: usize, totals: &[u64], rows: &[u16]) -> io::Result<()> {
+fn check_plan_call<W: Write>(
+    out: &mut W,
+    i: u64,
+    file: &[u8],
+    words: usize,
+    totals: &[u64],
+    rows: &[u16],
+) -> io::Result<()> {
     let mut scratch = [7u64; 300];
     let mut others = [7u64; 8];
     let mut other_rows = [7u16; 43];
@@ -198,7 +222,13 @@ fn check_boundary<W: Write>(out: &mut W, i: u64, tree: SmallTree, file: &[u8]) -
 
 // Lends just the words of scratch that are asked, and of each buffer at least one entry more than is written, all of them 7: no
 // total, and no node.
-fn check_report<W: Write>(out: &mut W, i: u64, tree: SmallTree, k: usize, file: &[u8]) -> io::Result<()>
+fn check_report<W: Write>(
+    out: &mut W,
+    i: u64,
+    tree: SmallTree,
+    k: usize,
+    file: &[u8],
+) -> io::Result<()>
     requires { k ≤ 6 }
 {
     let words = small_plans::scratch_words(tree);
@@ -217,7 +247,16 @@ fn check_report<W: Write>(out: &mut W, i: u64, tree: SmallTree, k: usize, file: 
     )) {
         trial_text::print_difference(out, i, 0, b" report's ruling")?;
     }
-    check_budgets(out, i, tree, k, &totals, &rows, &greedy_totals, &greedy_nodes)?;
+    check_budgets(
+        out,
+        i,
+        tree,
+        k,
+        &totals,
+        &rows,
+        &greedy_totals,
+        &greedy_nodes,
+    )?;
     check_beyond(out, i, k, &totals, &rows, &greedy_totals, &greedy_nodes)?;
     check_plan_call(out, i, file, words, &totals, &rows)?;
     check_greedy_call(out, i, file, words, &greedy_totals, &greedy_nodes)?;

@@ -5,10 +5,11 @@
 // then both buffers, whole. Before the call each entry of the servings is 4321, and of the loads 987654321.
 // `NAME rank FIRST SECOND FILE`: `NAME first`, `NAME second` or `NAME refused RULE RECORD`, and then the set handed back.
 #![tactic(auto)]
+
 use compare::Ranking;
 use placement::Billed;
-use std::io::{BufWriter, Write};
 use std::io;
+use std::io::{BufWriter, Write};
 
 fn print_bill<W: Write>(out: &mut W, bill: Billed) -> io::Result<()> {
     match bill {
@@ -30,7 +31,13 @@ fn print_buffers<W: Write>(out: &mut W, servings: &[u16], loads: &[u64]) -> io::
     trial_text::print_totals(out, loads)
 }
 
-fn answer_bill<W: Write>(out: &mut W, file: &[u8], set: &[u16], servings: &mut [u16], loads: &mut [u64]) -> io::Result<()> {
+fn answer_bill<W: Write>(
+    out: &mut W,
+    file: &[u8],
+    set: &[u16],
+    servings: &mut [u16],
+    loads: &mut [u64],
+) -> io::Result<()> {
     print_bill(out, placement::bill(file, set, servings, loads))?;
     print_buffers(out, servings, loads)
 }
@@ -50,7 +57,12 @@ fn print_ranking<W: Write>(out: &mut W, ranking: Ranking) -> io::Result<()> {
     Ok(())
 }
 
-fn answer_rank<'a, W: Write>(out: &mut W, file: &[u8], first: &'a [u16], second: &'a [u16]) -> io::Result<()> {
+fn answer_rank<'a, W: Write>(
+    out: &mut W,
+    file: &[u8],
+    first: &'a [u16],
+    second: &'a [u16],
+) -> io::Result<()> {
     print_ranking(out, compare::rank(file, first, second))?;
     out.write_all(b" winner")?;
     trial_text::print_numbers(out, compare::winner(file, first, second))

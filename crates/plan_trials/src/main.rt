@@ -4,10 +4,18 @@
 // `NAME refused RULE RECORD`, then both buffers, whole, and whether the words of the scratch from BEYOND on are as they were.
 // Before the call each word of the scratch is 5432123, each total 987654321 and each entry of the rows 4321.
 #![tactic(auto)]
-use std::io::{BufWriter, Write};
-use std::io;
 
-fn answer<W: Write>(out: &mut W, file: &[u8], beyond: usize, scratch: &mut [u64], totals: &mut [u64], rows: &mut [u16]) -> io::Result<()> {
+use std::io;
+use std::io::{BufWriter, Write};
+
+fn answer<W: Write>(
+    out: &mut W,
+    file: &[u8],
+    beyond: usize,
+    scratch: &mut [u64],
+    totals: &mut [u64],
+    rows: &mut [u16],
+) -> io::Result<()> {
     trial_text::print_ruling(out, optimum::plan(file, scratch, totals, rows))?;
     trial_text::print_plan(out, totals, rows)?;
     trial_text::print_kept(out, scratch, beyond, 5432123)

@@ -5,11 +5,12 @@
 // It writes a line for each difference, and last how many trees or patterns of closed nodes and how many rankings it went through,
 // how many rankings were of two sets with equal totals, and how many refusals by rule 12 there were.
 #![tactic(auto)]
+
 use compare::Ranking;
 use placement::Billed;
 use small_trees::SmallTree;
-use std::io::{BufWriter, Write};
 use std::io;
+use std::io::{BufWriter, Write};
 
 // ---- the bill of a set
 
@@ -20,7 +21,15 @@ fn has_total(bill: Billed, total: u64) -> bool {
     }
 }
 
-fn check_node<W: Write>(out: &mut W, i: u64, tree: SmallTree, set: u8, v: usize, servings: &[u16], loads: &[u64]) -> io::Result<()> {
+fn check_node<W: Write>(
+    out: &mut W,
+    i: u64,
+    tree: SmallTree,
+    set: u8,
+    v: usize,
+    servings: &[u16],
+    loads: &[u64],
+) -> io::Result<()> {
     if trial_buffers::node_at(servings, v) != small_plans::serving(tree, set, v) {
         trial_text::print_difference(out, i, v, b" serving node")?;
     }
@@ -31,7 +40,14 @@ fn check_node<W: Write>(out: &mut W, i: u64, tree: SmallTree, set: u8, v: usize,
 }
 
 // What the bill says of each node.
-fn check_nodes<W: Write>(out: &mut W, i: u64, tree: SmallTree, set: u8, servings: &[u16], loads: &[u64]) -> io::Result<()> {
+fn check_nodes<W: Write>(
+    out: &mut W,
+    i: u64,
+    tree: SmallTree,
+    set: u8,
+    servings: &[u16],
+    loads: &[u64],
+) -> io::Result<()> {
     let mut v = 0;
     while v < tree.nodes {
         check_node(out, i, tree, set, v, servings, loads)?;
@@ -40,7 +56,13 @@ fn check_nodes<W: Write>(out: &mut W, i: u64, tree: SmallTree, set: u8, servings
     Ok(())
 }
 
-fn check_bill<W: Write>(out: &mut W, i: u64, tree: SmallTree, set: u8, file: &[u8]) -> io::Result<()> {
+fn check_bill<W: Write>(
+    out: &mut W,
+    i: u64,
+    tree: SmallTree,
+    set: u8,
+    file: &[u8],
+) -> io::Result<()> {
     let mut nodes = [0u16; 6];
     let m = small_trees::write_set(set, &mut nodes);
     let mut servings = [7u16; 6];
@@ -114,7 +136,14 @@ fn is_refused(ranking: Ranking) -> bool {
 }
 
 // The ranking of two sets, and the set handed back, where the reference says whether the first ranks first.
-fn check_pair<'a, W: Write>(out: &mut W, i: u64, file: &[u8], first: &'a [u16], second: &'a [u16], leads: bool) -> io::Result<()> {
+fn check_pair<'a, W: Write>(
+    out: &mut W,
+    i: u64,
+    file: &[u8],
+    first: &'a [u16],
+    second: &'a [u16],
+    leads: bool,
+) -> io::Result<()> {
     let best = if leads { first } else { second };
     if !names(compare::rank(file, first, second), leads) {
         trial_text::print_difference(out, i, small_trees::set_of(second) as usize, b" ranking")?;
@@ -125,7 +154,14 @@ fn check_pair<'a, W: Write>(out: &mut W, i: u64, file: &[u8], first: &'a [u16], 
     Ok(())
 }
 
-fn check_ranking<W: Write>(out: &mut W, i: u64, tree: SmallTree, one: u8, other: u8, file: &[u8]) -> io::Result<()> {
+fn check_ranking<W: Write>(
+    out: &mut W,
+    i: u64,
+    tree: SmallTree,
+    one: u8,
+    other: u8,
+    file: &[u8],
+) -> io::Result<()> {
     let mut first = [0u16; 6];
     let a = small_trees::write_set(one, &mut first);
     let mut second = [0u16; 6];
@@ -193,7 +229,14 @@ fn with_refusals(so_far: Count) -> Count {
 }
 
 // Every set of the tree's nodes against this one, both ways round.
-fn check_rankings<W: Write>(out: &mut W, i: u64, tree: SmallTree, set: u8, file: &[u8], so_far: Count) -> io::Result<Count> {
+fn check_rankings<W: Write>(
+    out: &mut W,
+    i: u64,
+    tree: SmallTree,
+    set: u8,
+    file: &[u8],
+    so_far: Count,
+) -> io::Result<Count> {
     let mut count = so_far;
     let mut mask = 0;
     while mask < 64 {
@@ -208,7 +251,13 @@ fn check_rankings<W: Write>(out: &mut W, i: u64, tree: SmallTree, set: u8, file:
 }
 
 // A set that is not one of the tree's has no bill and no rank, be it first or second, and nothing is handed back.
-fn check_refusals<'a, W: Write>(out: &mut W, i: u64, file: &[u8], set: &'a [u16], wrong: &'a [u16]) -> io::Result<()> {
+fn check_refusals<'a, W: Write>(
+    out: &mut W,
+    i: u64,
+    file: &[u8],
+    set: &'a [u16],
+    wrong: &'a [u16],
+) -> io::Result<()> {
     check_no_bill(out, i, file, wrong)?;
     if !is_refused(compare::rank(file, wrong, set)) {
         trial_text::print_difference(out, i, 0, b" refusal of the first set")?;
@@ -223,7 +272,14 @@ fn check_refusals<'a, W: Write>(out: &mut W, i: u64, file: &[u8], set: &'a [u16]
 }
 
 // The server, and a node that the tree lacks, beside a set of the tree.
-fn check_wrong_sets<W: Write>(out: &mut W, i: u64, tree: SmallTree, one: u8, file: &[u8], so_far: Count) -> io::Result<Count> {
+fn check_wrong_sets<W: Write>(
+    out: &mut W,
+    i: u64,
+    tree: SmallTree,
+    one: u8,
+    file: &[u8],
+    so_far: Count,
+) -> io::Result<Count> {
     let mut set = [0u16; 6];
     let a = small_trees::write_set(one, &mut set);
     let server = [0u16];
@@ -234,7 +290,14 @@ fn check_wrong_sets<W: Write>(out: &mut W, i: u64, tree: SmallTree, one: u8, fil
 }
 
 // A set with a closed node, beside a set of the tree.
-fn check_closed_set<W: Write>(out: &mut W, i: u64, one: u8, wrong: u8, file: &[u8], so_far: Count) -> io::Result<Count> {
+fn check_closed_set<W: Write>(
+    out: &mut W,
+    i: u64,
+    one: u8,
+    wrong: u8,
+    file: &[u8],
+    so_far: Count,
+) -> io::Result<Count> {
     let mut set = [0u16; 6];
     let a = small_trees::write_set(one, &mut set);
     let mut other = [0u16; 6];
@@ -252,7 +315,14 @@ fn is_closed(tree: SmallTree, v: usize) -> bool {
 }
 
 // Each closed node, alone and with the nodes of a set.
-fn check_closed_nodes<W: Write>(out: &mut W, i: u64, tree: SmallTree, one: u8, file: &[u8], so_far: Count) -> io::Result<Count> {
+fn check_closed_nodes<W: Write>(
+    out: &mut W,
+    i: u64,
+    tree: SmallTree,
+    one: u8,
+    file: &[u8],
+    so_far: Count,
+) -> io::Result<Count> {
     let mut count = so_far;
     let mut v = 1;
     while v < 6 {

@@ -5,8 +5,9 @@
 // BEYOND on are as they were. Before the call each word of the scratch is 5432123, each plan total 987654321, each entry of the
 // rows 4321, each greedy total 123456789 and each entry of the greedy nodes 1234.
 #![tactic(auto)]
-use std::io::{BufWriter, Write};
+
 use std::io;
+use std::io::{BufWriter, Write};
 
 fn print_greedy<W: Write>(out: &mut W, totals: &[u64], nodes: &[u16]) -> io::Result<()> {
     out.write_all(b" greedy_totals")?;
@@ -25,14 +26,10 @@ fn answer<W: Write>(
     greedy_totals: &mut [u64],
     greedy_nodes: &mut [u16],
 ) -> io::Result<()> {
-    trial_text::print_ruling(out, report::report(
-        file,
-        scratch,
-        totals,
-        rows,
-        greedy_totals,
-        greedy_nodes,
-    ))?;
+    trial_text::print_ruling(
+        out,
+        report::report(file, scratch, totals, rows, greedy_totals, greedy_nodes),
+    )?;
     trial_text::print_plan(out, totals, rows)?;
     print_greedy(out, greedy_totals, greedy_nodes)?;
     trial_text::print_kept(out, scratch, beyond, 5432123)

@@ -5,12 +5,13 @@
 // the mask says, for each set in order of masks how many rank before it, the words of scratch that are asked, and for each node
 // and each budget the least totals with the node and without it.
 #![tactic(auto)]
+
 ghost use Rattle.std.specs.Prelude.{◌≤◌};
 
 use small_plans::Least;
 use small_trees::SmallTree;
-use std::io::{BufWriter, Write};
 use std::io;
+use std::io::{BufWriter, Write};
 
 fn print_file<W: Write>(out: &mut W, tree: SmallTree) -> io::Result<()> {
     let mut space = [0u8; 87];
@@ -204,7 +205,11 @@ fn tree_of(line: &[u8]) -> SmallTree {
 
 fn answer_line<W: Write>(out: &mut W, line: &[u8]) -> io::Result<()> {
     trial_text::print_name(out, line)?;
-    answer(out, tree_of(line), trial_text::number(trial_text::word(line, 3)))?;
+    answer(
+        out,
+        tree_of(line),
+        trial_text::number(trial_text::word(line, 3)),
+    )?;
     trial_text::end_line(out)
 }
 

@@ -1,8 +1,9 @@
 // Runs the cases of the program's text: a case to each line of standard input, `NAME FILE`, and for each the name on a line of
 // its own and below it the text as it is.
 #![tactic(auto)]
-use std::io::{BufWriter, Write};
+
 use std::io;
+use std::io::{BufWriter, Write};
 
 fn print_text<W: Write>(out: &mut W, file: &[u8]) -> io::Result<()> {
     let text = report_text::program_text(file);
