@@ -1,29 +1,25 @@
 // The report program: reads a tree file on standard input and prints its report, or why the file is refused.
 #![tactic(auto)]
-ghost use Rattle.std.specs.Prelude.{◌≤◌, length, IfOk};
+
+ghost use Rattle.std.specs.Prelude.{OnOk, IfSome};
+ghost use Rattle.std.specs.Io.KnownBytes.{Appends};
+ghost use Rattle.model.specs.Report.{program_text};
 
 use std::io;
-use std::io::Read;
+use std::io::{Read, Write};
 
-// Reads from `input` into the start of `file` until `file` is full or the input ends, and answers how many bytes there are.
-fn read_file<R: Read>(input: &mut R, file: &mut [u8]) -> io::Result<usize>
-    ensures { IfOk result (λ n. n ≤ length file.new) }
+// Reads the first look at a file and writes the report on it: where the bytes of the reader and of the writer are known, this is
+// what the program prints for the whole file.
+fn print_report<R: Read, W: Write>(input: &mut R, out: &mut W) -> io::Result<()>
+    ensures { OnOk result (IfSome (R.remaining input.old) (λ file. Appends (W.contents out.old) (W.contents out.new) (program_text file))) }
 {
-    let mut end = 0;
-    while end < file.len() {
-        let count = input.read(&mut file[end..])?;
-        if count == 0 {
-            return Ok(end);
-        }
-        end += count;
-    }
-    Ok(end)
+    let mut file = [0u8; program_report::FIRST_LOOK];
+    let n = first_bytes::read_into(input, &mut file)?;
+    let text = report_text::program_text(&file[..n]);
+    let bytes = text.bytes;
+    out.write_all(&bytes[..text.length])
 }
 
 fn main(rt: HostRuntime) -> io::Result<()> {
-    let mut input = [0u8; program_report::FIRST_LOOK];
-    let n = read_file(&mut rt.stdin(), &mut input)?;
-    let text = report_text::program_text(&input[..n]);
-    let bytes = text.bytes;
-    rt.write_all(&bytes[..text.length])
+    print_report(&mut rt.stdin(), &mut io::writer(&rt))
 }

@@ -78,7 +78,7 @@ fn answer_lines<W: Write>(out: &mut W, text: &[u8]) -> io::Result<()> {
 
 fn main(rt: HostRuntime) -> io::Result<()> {
     let mut text = trial_text::text_room();
-    let n = trial_text::read_text(&mut rt.stdin(), &mut text)?;
+    let n = first_bytes::read_into(&mut rt.stdin(), &mut text)?;
     let mut out = BufWriter::new(rt.alloc(), io::writer(&rt))?;
     answer_lines(&mut out, &text[..n])?;
     out.flush()

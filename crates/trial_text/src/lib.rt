@@ -4,10 +4,10 @@
 // where `*N` after a piece stands for N of it.
 #![tactic(auto)]
 
-ghost use Rattle.std.specs.Prelude.{◌≡◌, ◌+◌, ◌-◌, ◌≤◌, ◌<◌, length, IfOk};
+ghost use Rattle.std.specs.Prelude.{◌≡◌, ◌+◌, ◌-◌, ◌≤◌, ◌<◌, length};
 
 use std::io;
-use std::io::{Read, Write};
+use std::io::Write;
 use tree_file::Ruling;
 
 // The index of the first such byte from `at` on, else the length.
@@ -257,21 +257,6 @@ pub fn scratch_room(value: u64) -> [u64; 40960]
     ensures { 40960 ≡ length result }
 {
     [value; 40960]
-}
-
-// Reads from `input` into the start of `text` until `text` is full or the input ends, and answers how many bytes there are.
-pub fn read_text<R: Read>(input: &mut R, text: &mut [u8]) -> io::Result<usize>
-    ensures { IfOk result (λ n. n ≤ length text.new) }
-{
-    let mut end = 0;
-    while end < text.len() {
-        let count = input.read(&mut text[end..])?;
-        if count == 0 {
-            return Ok(end);
-        }
-        end += count;
-    }
-    Ok(end)
 }
 
 // ---- answers, to a writer
