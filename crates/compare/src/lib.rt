@@ -1,5 +1,6 @@
 // The ranking of two sets by total, then in the order of ties, and the one of them that ranks first.
 #![tactic(auto)]
+
 ghost use Rattle.std.specs.Prelude.{◌≡◌, ◌+◌, ◌-◌, ◌<◌, length, take};
 ghost use Rattle.laws.specs.Lists.{range};
 ghost use Rattle.model.specs.File.{tree_of, demand_of, count_of};

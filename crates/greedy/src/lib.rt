@@ -1,5 +1,6 @@
 // The greedy rule: each step takes the node where a cache saves most, and updates only the words that this cache changes.
 #![tactic(auto)]
+
 ghost use Rattle.std.specs.Prelude.{◌≡◌, ◌&&◌, [], suc, ◌+◌, ◌*◌, ◌-◌, ◌≤◌, ◌<◌, ◌^◌, leb, length};
 ghost use Rattle.laws.specs.FirstGreatest.{FirstGreatest};
 ghost use Rattle.model.specs.File.{most_budget, record_length, tree_of, demand_of};

@@ -1,5 +1,6 @@
 // The calls for hosts in C, as include/kterc.h declares them: each slice is a pointer and a length.
 #![tactic(auto)]
+
 ghost use Rattle.std.specs.Prelude.{◌≡◌};
 ghost use Rattle.model.specs.Rules.{Verdict, broken, ◌then◌, file_verdict, ask_set};
 ghost use Rattle.model.specs.Calls.{answer, check_number, ranking, PlanMemory, plan_verdict, PlanCall, GreedyMemory, greedy_verdict, GreedyCall};
@@ -40,32 +41,28 @@ fn code_of(ruling: Ruling) -> u32
 }
 
 // 0, or the number of the first broken rule about the file.
-#[unsafe(no_mangle)]
-pub extern "C" fn kterc_check(file: &[u8]) -> u32
+pub fn kterc_check(file: &[u8]) -> u32
     ensures { result ≡ check_number file.now }
 {
     tree_file::kterc_check(file)
 }
 
 // The words of scratch that rule 13 asks of an accepted file, 0 for a refused one.
-#[unsafe(no_mangle)]
-pub extern "C" fn kterc_scratch_words(file: &[u8]) -> usize
+pub fn kterc_scratch_words(file: &[u8]) -> usize
     ensures { result ≡ words_asked file.now }
 {
     lent::words_asked(file)
 }
 
 // The place of a node's record in the file, counted in bytes from 0; 0 for none.
-#[unsafe(no_mangle)]
-pub extern "C" fn kterc_record(file: &[u8], node: usize) -> usize
+pub fn kterc_record(file: &[u8], node: usize) -> usize
     ensures { result ≡ record_place file.now node }
 {
     tree_file::record_place(file, node)
 }
 
 // Which of two sets ranks first: FIRST, SECOND or the code of the refusal.
-#[unsafe(no_mangle)]
-pub extern "C" fn kterc_rank(file: &[u8], first: &[u16], second: &[u16]) -> u32
+pub fn kterc_rank(file: &[u8], first: &[u16], second: &[u16]) -> u32
     ensures { result ≡ rank_code (ranking file.now first.now second.now) }
 {
     let ranking = compare::rank(file, first, second);
@@ -116,8 +113,7 @@ fn bill(
 }
 
 // The bill of a set: its total in the first entry of `total`, then the serving node and the load above each node.
-#[unsafe(no_mangle)]
-pub extern "C" fn kterc_bill(
+pub fn kterc_bill(
     file: &[u8],
     set: &[u16],
     total: &mut [u64],
@@ -131,13 +127,7 @@ pub extern "C" fn kterc_bill(
 }
 
 // For each budget from 0 to k the least total and the nodes of the plan.
-#[unsafe(no_mangle)]
-pub extern "C" fn kterc_plan(
-    file: &[u8],
-    scratch: &mut [u64],
-    totals: &mut [u64],
-    rows: &mut [u16],
-) -> u32
+pub fn kterc_plan(file: &[u8], scratch: &mut [u64], totals: &mut [u64], rows: &mut [u16]) -> u32
     ensures value { result ≡ code_of (plan_verdict file.now record { scratch = scratch.entry.now; totals = totals.old; rows = rows.old }) }
     ensures fact { (let lent : PlanMemory = record { scratch = scratch.entry.now; totals = totals.old; rows = rows.old } in PlanCall file.now lent (plan_verdict file.now lent) record { scratch = scratch.exit.now; totals = totals.new; rows = rows.new }) }
 {
@@ -145,13 +135,7 @@ pub extern "C" fn kterc_plan(
 }
 
 // For each budget from 0 to k the total that the greedy rule reaches, and the nodes in the order taken.
-#[unsafe(no_mangle)]
-pub extern "C" fn kterc_greedy(
-    file: &[u8],
-    scratch: &mut [u64],
-    totals: &mut [u64],
-    nodes: &mut [u16],
-) -> u32
+pub fn kterc_greedy(file: &[u8], scratch: &mut [u64], totals: &mut [u64], nodes: &mut [u16]) -> u32
     ensures value { result ≡ code_of (greedy_verdict file.now record { scratch = scratch.entry.now; totals = totals.old; nodes = nodes.old }) }
     ensures fact { (let lent : GreedyMemory = record { scratch = scratch.entry.now; totals = totals.old; nodes = nodes.old } in GreedyCall file.now lent (greedy_verdict file.now lent) record { scratch = scratch.exit.now; totals = totals.new; nodes = nodes.new }) }
 {
@@ -159,8 +143,7 @@ pub extern "C" fn kterc_greedy(
 }
 
 // Both answers together, with demand 3.
-#[unsafe(no_mangle)]
-pub extern "C" fn kterc_report(
+pub fn kterc_report(
     file: &[u8],
     scratch: &mut [u64],
     totals: &mut [u64],
@@ -215,8 +198,7 @@ fn with_without(
 
 // The least total of all sets of at most `budget` nodes that contain the node, or NO_TOTAL, and the least of those that don't, in
 // the first two entries of `totals`.
-#[unsafe(no_mangle)]
-pub extern "C" fn kterc_with_without(
+pub fn kterc_with_without(
     file: &[u8],
     node: usize,
     budget: usize,
@@ -231,8 +213,7 @@ pub extern "C" fn kterc_with_without(
 
 // The least budget, at most k, whose plan total is no larger than the target, in the first entry of `budget`, and its set as one row of
 // the plan in `row`; or NONE, which writes nothing.
-#[unsafe(no_mangle)]
-pub extern "C" fn kterc_target(
+pub fn kterc_target(
     file: &[u8],
     target: u64,
     scratch: &mut [u64],

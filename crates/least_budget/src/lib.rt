@@ -1,6 +1,7 @@
 // From a target to a budget: the least budget whose plan total is no larger than the target, and its row of the plan, from the plan's
 // table.
 #![tactic(auto)]
+
 ghost use Rattle.std.specs.Prelude.{◌≡◌, ◌≤◌, length};
 ghost use Rattle.laws.specs.Fronts.{FrontOnly};
 ghost use Rattle.model.specs.File.{most_budget, tree_of, budget_of};

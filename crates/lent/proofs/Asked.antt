@@ -20,7 +20,7 @@ use Rattle.lent.specs.Lent.{lent_verdict, LentRoom}
 
 module _ (file : List ℕ) where
   pub answered_sizes : {sizes : code.Tree} → answered sizes ≡ answer (file_verdict file) (sizes_of file) → AcceptedSizes file sizes
-  answered_sizes e = let told = answered_passed (file_verdict file) (sizes_of file) e in record { accepted = told.0; of_file_lem = told.1 }
+  answered_sizes e = let told = answered_passed (file_verdict file) (sizes_of file) e in record { accepted = told.0; of_file = told.1 }
 
   module _ {sizes : code.Tree} (e : answered sizes ≡ answer (file_verdict file) (sizes_of file)) where
     pub words_of_accepted : {asked : ℕ} → asked ≡ scratch_words file → asked ≡ words_asked file
@@ -29,7 +29,7 @@ module _ (file : List ℕ) where
 
     pub scratch_held : (words : ℕ) → leb (scratch_words file) words ≡ true → answered sizes ≡ answer (lent_verdict file words) (sizes_of file)
     unfolding lent_verdict
-    scratch_held words h = let of = answered_sizes e in rw (of.accepted, h, of.of_file_lem)
+    scratch_held words h = let of = answered_sizes e in rw (of.accepted, h, of.of_file)
 
     pub scratch_short_lem : (words : ℕ) → leb (scratch_words file) words ≡ false → refused 13 0 ≡ answer (lent_verdict file words) (sizes_of file)
     unfolding lent_verdict
@@ -59,13 +59,13 @@ module _ (file : List ℕ) where
       (ok.0, ok.1, told.1)
 
   lent_accepted_sizes : (words : ℕ) {sizes : code.Tree} → answered sizes ≡ answer (lent_verdict file words) (sizes_of file) → AcceptedSizes file sizes
-  lent_accepted_sizes words e = let told = lent_told e in record { accepted = told.0; of_file_lem = told.2 }
+  lent_accepted_sizes words e = let told = lent_told e in record { accepted = told.0; of_file = told.2 }
 
   pub lent_sizes : (words : ℕ) {sizes : code.Tree} → answered sizes ≡ answer (lent_verdict file words) (sizes_of file) → SizesHold sizes
   lent_sizes words e = sizes_hold (lent_accepted_sizes words e)
 
   pub lent_room_lem : (s : List ℕ) {sizes : code.Tree} → answered sizes ≡ answer (lent_verdict file (length s)) (sizes_of file) → LentRoom file sizes s
-  lent_room_lem s e = record { of_file_lem = lent_accepted_sizes (length s) e; room = (lent_told e).1 }
+  lent_room_lem s e = record { of_file = lent_accepted_sizes (length s) e; room = (lent_told e).1 }
 
 -- ---- rule 14
 

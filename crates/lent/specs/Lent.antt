@@ -10,5 +10,5 @@ lent_verdict file words = file_verdict file then ask 13 0 (leb (scratch_words fi
 
 -- where they hold: an accepted file with its n, k and h, and a scratch with the words that rule 13 asks for
 pub record LentRoom (file : List ℕ) (sizes : code.Tree) (s : List ℕ) : Type 0 where
-  pub of_file_lem : AcceptedSizes file sizes
+  pub of_file : AcceptedSizes file sizes
   pub room : scratch_words file ≤ length s

@@ -1,5 +1,6 @@
 // What every call with lent scratch asks first: the rules about the file, then rule 13 of the scratch.
 #![tactic(auto)]
+
 ghost use Rattle.std.specs.Prelude.{◌≡◌, leb};
 ghost use Rattle.model.specs.Rules.{scratch_words};
 ghost use Rattle.model.specs.Calls.{answer};

@@ -51,19 +51,19 @@ module _ (w : ℕ) (pay : Bool → ℕ) (children : Bool → ℕ → ℕ) (sibli
   pub held_parts : ((u : Bool) → pay u ≤ cap) → ((u : Bool) (n : ℕ) → children u n ≤ cap) → ((n : ℕ) → siblings n ≤ cap)
       → LineParts cached uncached rest (pay true) (pay false)
   held_parts p c s = record {
-    node_parts_lem = record {
-      cached_line = holds_line (children true) w cached held.cached-is (c true);
-      uncached_line = holds_line (children false) w uncached held.uncached-is (c false);
+    node_parts = record {
+      cached_line = holds_line (children true) w cached held.cached_is (c true);
+      uncached_line = holds_line (children false) w uncached held.uncached_is (c false);
       alike = held.alike;
       pays = (p true, p false);
     };
-    rest_line = holds_line siblings w rest held.rest-is s;
+    rest_line = holds_line siblings w rest held.rest_is s;
   }
 
   held_cost_if : (n : ℕ) → n < w → (u : Bool) → line_cost_if cached uncached (pay true) (pay false) n u ≡ cost_if bit pay children n u
   unfolding cost_if
-  held_cost_if n h true = rw (held.cached-is.is (n - 1) (omega arith))
-  held_cost_if n h false = rw (held.uncached-is.is (n - 0) (omega arith))
+  held_cost_if n h true = rw (held.cached_is.is (n - 1) (omega arith))
+  held_cost_if n h false = rw (held.uncached_is.is (n - 0) (omega arith))
 
   pub held_takes : (n : ℕ) → n < w → line_takes cached uncached (pay true) (pay false) n ≡ own_choice prefer (cost_if bit pay children) n
   unfolding line_takes own_choice better
@@ -76,7 +76,7 @@ module _ (w : ℕ) (pay : Bool → ℕ) (children : Bool → ℕ → ℕ) (sibli
   held_split : (m : ℕ) → m < w → (r : ℕ) → r ≤ m
       → line_split cached uncached rest (pay true) (pay false) m r ≡ split (node_best prefer (cost_if bit pay children)) siblings m r
   unfolding split
-  held_split m h r k = rw (held_node (m - r) (omega arith), held.rest-is.is r (omega arith))
+  held_split m h r k = rw (held_node (m - r) (omega arith), held.rest_is.is r (omega arith))
 
   pub held_later : (m : ℕ) → m < w
       → line_later cached uncached rest (pay true) (pay false) m ≡ later (node_best prefer (cost_if bit pay children)) siblings m

@@ -24,6 +24,6 @@ module _ {cached uncached rest : List ℕ} {member other least : ℕ} (m : ℕ) 
   unfolding split
   later_from =
       elim (dec_lt first (m - min m (length cached))) [
-        | yes h ↦ absurd (omega (arith, is.1, least_is_split, node_none cached uncached member other (m - first) parts.node-parts (omega arith)))
+        | yes h ↦ absurd (omega (arith, is.1, least_is_split, node_none cached uncached member other (m - first) parts.node_parts (omega arith)))
         | no h ↦ omega arith
       ]

@@ -32,7 +32,7 @@ module _ (cached uncached : List ℕ) (member other n : ℕ) where
   node_is_lesser = omega (arith, better_min (line_cost_if cached uncached member other n) false true)
 
   pub node_within : NodeParts cached uncached member other → line_node cached uncached member other n ≤ cap + cap
-  node_within parts = omega (arith, node_is_lesser, cost_other, parts.uncached-line.within n, parts.pays.1)
+  node_within parts = omega (arith, node_is_lesser, cost_other, parts.uncached_line.within n, parts.pays.1)
 
   -- more caches than its children's line has entries do not fit
   pub node_none : NodeParts cached uncached member other → length cached < n → cap ≤ line_node cached uncached member other n
@@ -52,7 +52,7 @@ module _ (cached uncached : List ℕ) (member other n : ℕ) where
   -- so an entry that is stored from the children's lines is the node's: the first one, one that both lines have, and the one after
   module _ (parts : NodeParts cached uncached member other) {x : ℕ} where
     pub own_first : n ≡ 0 → x ≡ min (min cap (member + cap)) (other + get_or uncached n 0) → x ≡ line_own cached uncached member other n
-    own_first e is = omega (arith, own_without_caches e, entry_inside uncached n (omega (arith, parts.uncached-line.some)))
+    own_first e is = omega (arith, own_without_caches e, entry_inside uncached n (omega (arith, parts.uncached_line.some)))
 
     pub own_next : 0 < n → n < length cached → x ≡ min (min cap (member + get_or cached (n - 1) 0)) (other + get_or uncached n 0)
         → x ≡ line_own cached uncached member other n

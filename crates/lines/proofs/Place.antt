@@ -24,7 +24,7 @@ module _ {s : List ℕ} {at end cached uncached w member other : ℕ} (place : O
   uncached_long = length_part s uncached w place.within.2
 
   pub some_width : 0 < w
-  some_width = omega (arith, place.parts.cached-line.some, cached_long)
+  some_width = omega (arith, place.parts.cached_line.some, cached_long)
 
   -- entries were stored at i, which is in the line
   module _ {now : List ℕ} (i : ℕ) (xs : List ℕ) (stored : now ≡ sets s i xs) (inside : (at ≤ i) × (i + length xs ≤ at + end)) where
@@ -36,13 +36,13 @@ module _ {s : List ℕ} {at end cached uncached w member other : ℕ} (place : O
 
     read_cached : (j : ℕ) → j < w → (get_or now (cached + j) 0 ≡ get_or (part s cached w) j 0) × (get_or now (cached + j) 0 ≤ cap)
     read_cached j h =
-        let is = read_apart cached place.cached-apart j h in
-        (is, omega (arith, is, stored_within (part s cached w) j place.parts.cached-line (omega (arith, cached_long))))
+        let is = read_apart cached place.cached_apart j h in
+        (is, omega (arith, is, stored_within (part s cached w) j place.parts.cached_line (omega (arith, cached_long))))
 
     read_uncached : (j : ℕ) → j < w → (get_or now (uncached + j) 0 ≡ get_or (part s uncached w) j 0) × (get_or now (uncached + j) 0 ≤ cap)
     read_uncached j h =
-        let is = read_apart uncached place.uncached-apart j h in
-        (is, omega (arith, is, stored_within (part s uncached w) j place.parts.uncached-line (omega (arith, uncached_long))))
+        let is = read_apart uncached place.uncached_apart j h in
+        (is, omega (arith, is, stored_within (part s uncached w) j place.parts.uncached_line (omega (arith, uncached_long))))
 
   abbrev own : ℕ → ℕ
   own = line_own (part s cached w) (part s uncached w) member other
@@ -65,9 +65,9 @@ module _ {s : List ℕ} {at end cached uncached w member other : ℕ} (place : O
   place_kept x = record {
     ends = place.ends;
     within = rw length-set place.within;
-    cached_apart = place.cached-apart;
-    uncached_apart = place.uncached-apart;
-    parts = rw (apart_kept x cached place.cached-apart, apart_kept x uncached place.uncached-apart) place.parts;
+    cached_apart = place.cached_apart;
+    uncached_apart = place.uncached_apart;
+    parts = rw (apart_kept x cached place.cached_apart, apart_kept x uncached place.uncached_apart) place.parts;
   }
 
   -- the first entry, then those that both lines have
@@ -76,7 +76,7 @@ module _ {s : List ℕ} {at end cached uncached w member other : ℕ} (place : O
       → now ≡ sets s at (map own (range 0 (min end w)))
   front_is x first stored =
       stores_after_first s at own (min end w) (omega (arith, place.ends.0, some_width)) first
-      (rw (apart_kept x cached place.cached-apart, apart_kept x uncached place.uncached-apart) at stored)
+      (rw (apart_kept x cached place.cached_apart, apart_kept x uncached place.uncached_apart) at stored)
 
   -- an entry that both lines have
   module _ {now : List ℕ} (n : ℕ) (f : ℕ → ℕ) (stored : now ≡ sets s (at + 1) (map f (range 1 (n - 1)))) (inside : (0 < n) × (n < min end w)) where

@@ -137,7 +137,7 @@ module _ (first second : List ℕ) where
 -- ---- the parts may change places
 
 pub row_parts_swapped : {w : ℕ} {first second : List ℕ} → RowParts w first second → RowParts w second first
-row_parts_swapped p = record { first_line = p.second-line; second_line = p.first-line; ends = (p.ends.1, p.ends.0) }
+row_parts_swapped p = record { first_line = p.second_line; second_line = p.first_line; ends = (p.ends.1, p.ends.0) }
 
 joined_best_swapped : (first second : List ℕ) (m : ℕ) → joined_best first second m ≡ joined_best second first m
 unfolding joined_best
@@ -184,14 +184,14 @@ module _ {cached uncached rest node : List ℕ} {member other w own : ℕ} (part
   }
 
   pub row_parts_lem : RowParts w node rest
-  row_parts_lem = record { first_line = node_line; second_line = parts.rest-line; ends = (omega (arith, node_long), few) }
+  row_parts_lem = record { first_line = node_line; second_line = parts.rest_line; ends = (omega (arith, node_long), few) }
 
   -- the entry is the least cost where more caches than the line has entries do not fit
   node_entry : (n : ℕ) → n < w → entry_of node n ≡ min cap (line_node cached uncached member other n)
   node_entry n h =
       elim (dec_lt n own) [
         | yes l ↦ node_inside n l
-        | no l ↦ omega (arith, node_past_lem n (omega arith), node_none cached uncached member other n parts.node-parts (omega arith))
+        | no l ↦ omega (arith, node_past_lem n (omega arith), node_none cached uncached member other n parts.node_parts (omega arith))
       ]
 
   row_is_best : (m : ℕ) → m < w → joined_best node rest m ≡ line_best cached uncached rest member other m

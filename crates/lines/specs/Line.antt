@@ -65,7 +65,7 @@ pub record OwnPlace (s : List ℕ) (at end cached uncached w member other : ℕ)
 -- ---- a row that begins with this node, `rest` being the line of its later siblings
 
 pub record LineParts (cached uncached rest : List ℕ) (member other : ℕ) : Type 0 where
-  pub node_parts_lem : NodeParts cached uncached member other
+  pub node_parts : NodeParts cached uncached member other
   pub rest_line : Line rest
 
 module _ (cached uncached rest : List ℕ) (member other : ℕ) where

@@ -2,6 +2,7 @@
 // that of the children of the row's first node if the node is a cache (`cached`), that of the children if it is none (`uncached`),
 // and that of the node's later siblings (`rest`). A line ends at the budget, or before it where more caches do not fit.
 #![tactic(auto)]
+
 ghost use Rattle.std.specs.Prelude.{◌≡◌, true, false, map, ◌+◌, ◌-◌, ◌≤◌, ◌<◌, min, length, take};
 ghost use Rattle.std.proofs.lemmas.List.Edits.{sets};
 ghost use Rattle.laws.specs.Lists.{range, part};

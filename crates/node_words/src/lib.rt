@@ -1,5 +1,6 @@
 // The four words that the scratch holds of each node, worked out from an accepted file, and their readers.
 #![tactic(auto)]
+
 ghost use Rattle.std.specs.Prelude.{◌≡◌, ◌+◌, ◌*◌, ◌-◌, ◌≤◌, ◌<◌, ◌^◌, length, set};
 ghost use Rattle.laws.specs.Fronts.{FrontOnly};
 ghost use Rattle.model.specs.File.{record_length, tree_of};

@@ -40,7 +40,7 @@ module _ (file : List ℕ) (v b words : ℕ) where
     holds = leb 1 v && ltb v sizes.nodes && leb b sizes.budget
 
     holds_is : {x : Bool} → holds ≡ x → (leb 1 v && ltb v (count_of file) && leb b (budget_of file)) ≡ x
-    holds_is h = rw (answered_sizes file e).of_file_lem at h
+    holds_is h = rw (answered_sizes file e).of_file at h
 
     pub node_refused : holds ≡ false → refused 16 0 ≡ answer (site_verdict file v b words) (sizes_of file)
     unfolding site_verdict
@@ -52,7 +52,7 @@ module _ (file : List ℕ) (v b words : ℕ) where
 
     pub site_accepted : holds ≡ true → leb (scratch_words file) words ≡ true → answered sizes ≡ answer (site_verdict file v b words) (sizes_of file)
     unfolding site_verdict
-    site_accepted h k = let of = answered_sizes file e in rw (of.accepted, holds_is h, k, of.of_file_lem)
+    site_accepted h k = let of = answered_sizes file e in rw (of.accepted, holds_is h, k, of.of_file)
 
   pub site_unasked : {q i : ℕ} → refused q i ≡ answer (file_verdict file) (sizes_of file) → refused q i ≡ answer (site_verdict file v b words) (sizes_of file)
   unfolding site_verdict
@@ -87,7 +87,7 @@ module _ (file : List ℕ) (v b : ℕ) (scratch : List ℕ) where
     pub site_room_lem : LentRoom file sizes scratch
     site_room_lem =
         record {
-          of_file_lem = record { accepted = each_passed.0; of_file_lem = (answered_passed (site_verdict file v b (length scratch)) (sizes_of file) e).1 };
+          of_file = record { accepted = each_passed.0; of_file = (answered_passed (site_verdict file v b (length scratch)) (sizes_of file) e).1 };
           room = leb-true (scratch_words file) (length scratch) (ask_passed 13 0 _ each_passed.2);
         }
 

@@ -1,6 +1,7 @@
 // With one node or without it: of the sets of at most b nodes, the least total of those that contain the node, and the least of
 // those that don't, each from a table filled under the wish that the node is a cache, or that it is not.
 #![tactic(auto)]
+
 ghost use Rattle.std.specs.Prelude.{◌≡◌, ◌&&◌, ◌+◌, ◌≤◌, leb, ltb};
 ghost use Rattle.laws.specs.Fronts.{FrontOnly};
 ghost use Rattle.model.specs.File.{most_budget, tree_of, demand_of, count_of};

@@ -1,5 +1,6 @@
 // Where the lines of each node lie in the scratch, worked out from an accepted file alone.
 #![tactic(auto)]
+
 ghost use Rattle.std.specs.Prelude.{◌≡◌, ◌-◌, ◌≤◌, ◌<◌, min, length, set};
 ghost use Rattle.model.specs.File.{most_nodes, tree_of};
 ghost use Rattle.model.specs.Tree.{depth};

@@ -1,5 +1,6 @@
 // The report in the program's own memory: rule 15, and the memory that is enough within its limits.
 #![tactic(auto)]
+
 ghost use Rattle.std.specs.Prelude.{◌≡◌, ◌&&◌, leb, take};
 ghost use Rattle.model.specs.Rules.{passed};
 ghost use Rattle.model.specs.Calls.{answer};

@@ -1,5 +1,6 @@
 // The report: the plan's and the greedy rule's answers together, at every budget.
 #![tactic(auto)]
+
 ghost use Rattle.std.specs.Prelude.{◌≡◌, ◌&&◌, suc, ◌*◌, ◌≤◌, leb};
 ghost use Rattle.model.specs.File.{most_budget};
 ghost use Rattle.model.specs.Report.{ReportCall};

@@ -1,5 +1,6 @@
 // The text that the report program prints, appended to lent memory word by word; each function answers where the text ends now.
 #![tactic(auto)]
+
 ghost use Rattle.std.specs.Prelude.{◌≡◌, suc, ◌+◌, ◌*◌, ◌≤◌, length};
 ghost use mathlib.Core.List.{[], ◌∷◌, flat_map};
 ghost use Rattle.laws.specs.Lists.{range, part, those};

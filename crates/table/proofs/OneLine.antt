@@ -65,7 +65,7 @@ module _ {file : List ℕ} {wish : Wish} {starts widths s : List ℕ} {v a u mem
         let t = tree_of file in
         let d = demand_of file in
         parts_read t d (may_be_under t wish) (budget_of file) (room_sound r.table.stored.room) r.served held
-        r.pays-itself r.pays-above
+        r.pays_itself r.pays_above
 
     -- the later siblings' line is no longer than the row's
     pub rest_few : {w : ℕ} → w ≡ get_or widths v 0 → length rest ≤ w
@@ -89,7 +89,7 @@ module _ {file : List ℕ} {wish : Wish} {starts widths s : List ℕ} {v a u mem
       made =
           let t = tree_of file in
           let d = demand_of file in
-          line_read t d (may_be_under t wish) (budget_of file) l r.served held (line_width f) r.pays-itself r.pays-above is
+          line_read t d (may_be_under t wish) (budget_of file) l r.served held (line_width f) r.pays_itself r.pays_above is
 
       place : start ≡ place_of (tree_of file) (budget_of file) v a
       place = g ∙ room_line r.table.stored.room v a r.served.node
@@ -195,14 +195,14 @@ module _ {file : List ℕ} {wish : Wish} {starts widths s : List ℕ} {v a u mem
             within = (line_fits f g, omega (arith, own.inside), omega (arith, under.inside));
             cached_apart = line_apart stands deep f g q x;
             uncached_apart = line_apart stands a f g q y;
-            parts = last_parts.node-parts;
+            parts = last_parts.node_parts;
           }
 
       pub last_line : {l : List ℕ} → l ≡ sets s start (map (line_own (part s cached n) (part s uncached n) member other) (range 0 w)) → l ≡ with_line file wish s v a
       last_line is =
           let t = tree_of file in
           let d = demand_of file in
-          let none = holds_empty _ _ _ (held near e (line_part child deep x q) (line_part child a y q) refl).rest-is (λ m. rw no_siblings (best_at_empty t d (may_be_under t wish) u m)) in
+          let none = holds_empty _ _ _ (held near e (line_part child deep x q) (line_part child a y q) refl).rest_is (λ m. rw no_siblings (best_at_empty t d (may_be_under t wish) u m)) in
           is ∙ line_set near e (line_part child deep x q) (line_part child a y q) refl f g (same_on_range _ _ 0 w (λ m _ _. sym (best_is_own _ _ _ member other m none)))
 
     -- no children
@@ -230,7 +230,7 @@ module _ {file : List ℕ} {wish : Wish} {starts widths s : List ℕ} {v a u mem
             within = (line_fits f g, inside, inside);
             cached_apart = line_apart follows a f g q x;
             uncached_apart = line_apart follows a f g q x;
-            parts = record { cached_line = leaf_parts.rest-line; uncached_line = leaf_parts.rest-line; alike = refl; pays = leaf_parts.node-parts.pays };
+            parts = record { cached_line = leaf_parts.rest_line; uncached_line = leaf_parts.rest_line; alike = refl; pays = leaf_parts.node_parts.pays };
           }
 
       pub leaf_line : {l : List ℕ} → l ≡ sets s start (map (line_own (part s rest n) (part s rest n) member other) (range 0 w)) → l ≡ with_line file wish s v a
@@ -238,6 +238,6 @@ module _ {file : List ℕ} {wish : Wish} {starts widths s : List ℕ} {v a u mem
           let t = tree_of file in
           let d = demand_of file in
           let lines = held near refl refl refl (line_part sibling a x q) in
-          let own = holds_empty _ _ _ lines.cached-is (λ m. rw no_children (best_at_empty t d (may_be_under t wish) v m)) in
-          let under = holds_empty _ _ _ lines.uncached-is (λ m. rw no_children (best_at_empty t d (may_be_under t wish) u m)) in
+          let own = holds_empty _ _ _ lines.cached_is (λ m. rw no_children (best_at_empty t d (may_be_under t wish) v m)) in
+          let under = holds_empty _ _ _ lines.uncached_is (λ m. rw no_children (best_at_empty t d (may_be_under t wish) u m)) in
           is ∙ line_set near refl refl refl (line_part sibling a x q) f g (same_on_range _ _ 0 w (λ m _ _. sym (leaf_is_own _ _ _ member other m own under)))

@@ -109,7 +109,7 @@ pub record Client (file s : List ℕ) (v u : ℕ) : Type 0 where
 pub record LineToFill (file : List ℕ) (w : Wish) (starts widths s : List ℕ) (v a u member other : ℕ) : Type 0 where
   pub table : TableFrom file (may_be_under (tree_of file) w) starts widths s (place_of (tree_of file) (budget_of file) v (a + 1))
   pub served : Served (tree_of file) v a u
-  pub pays_itself_lem : member ≡ pay_at (tree_of file) (demand_of file) (may_be_under (tree_of file) w) v u true
+  pub pays_itself : member ≡ pay_at (tree_of file) (demand_of file) (may_be_under (tree_of file) w) v u true
   pub pays_above : other ≡ pay_at (tree_of file) (demand_of file) (may_be_under (tree_of file) w) v u false
 
 -- v's first child and next sibling

@@ -1,6 +1,7 @@
 // The plan's table in the scratch, behind the words of the nodes: a line for each node and each depth of a serving node above it,
 // filled from the last node to the first.
 #![tactic(auto)]
+
 ghost use Rattle.std.specs.Prelude.{◌≡◌, cond, ◌+◌, ◌*◌, ◌≤◌, ◌<◌, ◌^◌, min, length, get_or};
 ghost use Rattle.model.specs.File.{record_length, count_of, budget_of, tree_of, demand_of};
 ghost use Rattle.model.specs.Bill.{cachable, price};

@@ -1,5 +1,6 @@
 // Bytes and decimal numbers appended to a text in lent memory; each function answers where the text ends now.
 #![tactic(auto)]
+
 ghost use Rattle.std.specs.Prelude.{◌∷◌, [], ◌+◌, ◌≤◌, ◌<◌, length};
 ghost use Rattle.model.specs.Report.{decimal};
 ghost use Rattle.text_bytes.specs.Appended.{Appended};

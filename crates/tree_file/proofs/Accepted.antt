@@ -32,16 +32,16 @@ module _ (file : List ℕ) (ok : file_verdict file ≡ passed) where
 
 -- n and k found are the file's
 pub sizes_count : {file : List ℕ} {sizes : code.Tree} → AcceptedSizes file sizes → sizes.nodes ≡ count_of file
-sizes_count of = ap (λ z. z.nodes) of.of_file_lem
+sizes_count of = ap (λ z. z.nodes) of.of_file
 
 pub sizes_budget : {file : List ℕ} {sizes : code.Tree} → AcceptedSizes file sizes → sizes.budget ≡ budget_of file
-sizes_budget of = ap (λ z. z.budget) of.of_file_lem
+sizes_budget of = ap (λ z. z.budget) of.of_file
 
 -- n, k and h of an accepted file are small
 pub sizes_hold : {file : List ℕ} {sizes : code.Tree} → AcceptedSizes file sizes → SizesHold sizes
 sizes_hold {file} of =
     let head = accepted_header file of.accepted in
-    rw of.of_file_lem (record {
+    rw of.of_file (record {
       some = head.some;
       nodes = head.few;
       budget = head.budget;

@@ -27,7 +27,7 @@ sizes_of file = record { nodes = count_of file; budget = budget_of file; height 
 -- n, k and h of an accepted file
 pub record AcceptedSizes (file : List ℕ) (sizes : code.Tree) : Type 0 where
   pub accepted : file_verdict file ≡ passed
-  pub of_file_lem : sizes ≡ sizes_of file
+  pub of_file : sizes ≡ sizes_of file
 
 -- n is at least 1, and all three are within the limits of a tree file
 pub record SizesHold (sizes : code.Tree) : Type 0 where

@@ -306,8 +306,7 @@ pub fn record_of(file: &[u8], v: usize) -> &[u8]
 }
 
 // For a C host: 0, or the number of the first broken rule about the file.
-#[unsafe(no_mangle)]
-pub extern "C" fn kterc_check(file: &[u8]) -> u32
+pub fn kterc_check(file: &[u8]) -> u32
     ensures { result ≡ check_number file.now }
 {
     let ruling = file_ruling(file);

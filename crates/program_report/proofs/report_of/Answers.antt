@@ -1,0 +1,8 @@
+-- `report_of`: the report call's answers, in memory that passes rules 13 and 14.
+use mathlib.Core.Path.{refl}
+use Rattle.program_report.proofs.Rules.{program_accepted}
+use Rattle.program_report.proofs.Memory.{memory_enough, written}
+use Rattle.program_report.proofs.report_of.Goals as goal
+
+pub returns : goal.returns
+returns c = let ok = program_accepted _ c.requires in written _ c.report.ensures (memory_enough _ ok.1 _ ok.0 refl refl refl refl refl)
