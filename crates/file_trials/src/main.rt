@@ -4,75 +4,80 @@
 // says of the same bytes stands after `host`.
 // `NAME record NODE FILE`: `NAME record BYTES`, or `NAME record none` for an empty one.
 #![tactic(auto)]
-use libc::{STDIN_FILENO, STDOUT_FILENO};
+
+use std::io;
+use std::io::{BufWriter, Write};
 use tree_file::Checked;
 
-fn print_accepted(tree: fields::Tree) {
-    io::write_all(STDOUT_FILENO, b" accepted");
-    trial_text::print_number(tree.nodes as u64);
-    trial_text::print_number(tree.budget as u64);
-    trial_text::print_number(tree.height as u64);
+fn print_accepted<W: Write>(out: &mut W, tree: fields::Tree) -> io::Result<()> {
+    out.write_all(b" accepted")?;
+    trial_text::print_number(out, tree.nodes as u64)?;
+    trial_text::print_number(out, tree.budget as u64)?;
+    trial_text::print_number(out, tree.height as u64)
 }
 
-fn answer_check(file: &[u8]) {
+fn answer_check<W: Write>(out: &mut W, file: &[u8]) -> io::Result<()> {
     let checked = tree_file::check(file);
     match checked {
         Checked::Accepted(tree) => {
-            print_accepted(tree);
+            print_accepted(out, tree)?;
         }
         Checked::Refused(rule, record) => {
-            trial_text::print_refused(rule, record);
+            trial_text::print_refused(out, rule, record)?;
         }
     }
-    io::write_all(STDOUT_FILENO, b" host");
-    trial_text::print_number(tree_file::kterc_check(file) as u64);
+    out.write_all(b" host")?;
+    trial_text::print_number(out, tree_file::kterc_check(file) as u64)
 }
 
-fn answer_record(file: &[u8], v: u64) {
-    io::write_all(STDOUT_FILENO, b" record");
+fn answer_record<W: Write>(out: &mut W, file: &[u8], v: u64) -> io::Result<()> {
+    out.write_all(b" record")?;
     let record = tree_file::record_of(file, v as usize);
     if record.len() == 0 {
-        io::write_all(STDOUT_FILENO, b" none");
-        return;
+        out.write_all(b" none")?;
+        return Ok(());
     }
-    trial_text::print_bytes(record);
+    trial_text::print_bytes(out, record)
 }
 
-fn check_case(line: &[u8]) {
+fn check_case<W: Write>(out: &mut W, line: &[u8]) -> io::Result<()> {
     let mut space = trial_text::file_room();
     let n = trial_text::file_of(line, 2, &mut space);
-    answer_check(&space[0..n]);
+    answer_check(out, &space[0..n])
 }
 
-fn record_case(line: &[u8]) {
+fn record_case<W: Write>(out: &mut W, line: &[u8]) -> io::Result<()> {
     let mut space = trial_text::file_room();
     let n = trial_text::file_of(line, 3, &mut space);
     let v = trial_text::number(trial_text::word(line, 2));
-    answer_record(&space[0..n], v);
+    answer_record(out, &space[0..n], v)
 }
 
-fn answer_line(line: &[u8]) {
-    trial_text::print_name(line);
+fn answer_line<W: Write>(out: &mut W, line: &[u8]) -> io::Result<()> {
+    trial_text::print_name(out, line)?;
     let question = trial_text::word(line, 1);
-    if check::same(question, b"check") {
-        check_case(line);
+    if question == b"check".as_slice() {
+        check_case(out, line)?;
     }
-    if check::same(question, b"record") {
-        record_case(line);
+    if question == b"record".as_slice() {
+        record_case(out, line)?;
     }
-    trial_text::end_line();
+    trial_text::end_line(out)
 }
 
-fn answer_lines(text: &[u8]) {
+fn answer_lines<W: Write>(out: &mut W, text: &[u8]) -> io::Result<()> {
     let mut at = 0;
     while at < text.len() {
-        answer_line(trial_text::up_to(text, at, b'\n'));
+        answer_line(out, trial_text::up_to(text, at, b'\n'))?;
         at = trial_text::past(text, at, b'\n');
     }
+    Ok(())
 }
 
-fn main() {
+fn main(rt: HostRuntime) -> io::Result<()> {
     let mut text = trial_text::text_room();
-    let n = io::read_full(STDIN_FILENO, &mut text);
-    answer_lines(&text[..n]);
+    let n = first_bytes::read_into(&mut rt.stdin(), &mut text)?;
+    let mut out = BufWriter::new(rt.alloc(), io::writer(&rt))?;
+    answer_lines(&mut out, &text[..n])?;
+    out.flush()
 }

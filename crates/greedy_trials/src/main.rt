@@ -4,23 +4,32 @@
 // `NAME accepted` or `NAME refused RULE RECORD`, then both buffers, whole, and `kept` if the words of the scratch from BEYOND on
 // are as they were.
 #![tactic(auto)]
-use libc::{STDIN_FILENO, STDOUT_FILENO};
 
-fn print_greedy(totals: &[u64], taken: &[u16]) {
-    io::write_all(STDOUT_FILENO, b" totals");
-    trial_text::print_totals(totals);
-    io::write_all(STDOUT_FILENO, b" taken");
-    trial_text::print_numbers(taken);
+use std::io;
+use std::io::{BufWriter, Write};
+
+fn print_greedy<W: Write>(out: &mut W, totals: &[u64], taken: &[u16]) -> io::Result<()> {
+    out.write_all(b" totals")?;
+    trial_text::print_totals(out, totals)?;
+    out.write_all(b" taken")?;
+    trial_text::print_numbers(out, taken)
 }
 
-fn answer(file: &[u8], beyond: usize, scratch: &mut [u64], totals: &mut [u64], taken: &mut [u16]) {
-    trial_text::print_ruling(greedy::greedy(file, scratch, totals, taken));
-    print_greedy(totals, taken);
-    trial_text::print_kept(scratch, beyond, 9);
+fn answer<W: Write>(
+    out: &mut W,
+    file: &[u8],
+    beyond: usize,
+    scratch: &mut [u64],
+    totals: &mut [u64],
+    taken: &mut [u16],
+) -> io::Result<()> {
+    trial_text::print_ruling(out, greedy::greedy(file, scratch, totals, taken))?;
+    print_greedy(out, totals, taken)?;
+    trial_text::print_kept(out, scratch, beyond, 9)
 }
 
 // Lends as much of each buffer as the line says.
-fn answer_file(line: &[u8], file: &[u8]) {
+fn answer_file<W: Write>(out: &mut W, line: &[u8], file: &[u8]) -> io::Result<()> {
     let mut scratch = trial_text::scratch_room(9);
     let mut totals = [9u64; 64];
     let mut taken = [9u16; 64];
@@ -29,32 +38,36 @@ fn answer_file(line: &[u8], file: &[u8]) {
     let b = trial_text::entries(line, 3, 64);
     let c = trial_text::entries(line, 4, 64);
     answer(
+        out,
         file,
         beyond,
         &mut scratch[0..a],
         &mut totals[0..b],
         &mut taken[0..c],
-    );
+    )
 }
 
-fn answer_line(line: &[u8]) {
-    trial_text::print_name(line);
+fn answer_line<W: Write>(out: &mut W, line: &[u8]) -> io::Result<()> {
+    trial_text::print_name(out, line)?;
     let mut file = trial_text::file_room();
     let n = trial_text::file_of(line, 5, &mut file);
-    answer_file(line, &file[0..n]);
-    trial_text::end_line();
+    answer_file(out, line, &file[0..n])?;
+    trial_text::end_line(out)
 }
 
-fn answer_lines(text: &[u8]) {
+fn answer_lines<W: Write>(out: &mut W, text: &[u8]) -> io::Result<()> {
     let mut at = 0;
     while at < text.len() {
-        answer_line(trial_text::up_to(text, at, b'\n'));
+        answer_line(out, trial_text::up_to(text, at, b'\n'))?;
         at = trial_text::past(text, at, b'\n');
     }
+    Ok(())
 }
 
-fn main() {
+fn main(rt: HostRuntime) -> io::Result<()> {
     let mut text = trial_text::text_room();
-    let n = io::read_full(STDIN_FILENO, &mut text);
-    answer_lines(&text[..n]);
+    let n = first_bytes::read_into(&mut rt.stdin(), &mut text)?;
+    let mut out = BufWriter::new(rt.alloc(), io::writer(&rt))?;
+    answer_lines(&mut out, &text[..n])?;
+    out.flush()
 }

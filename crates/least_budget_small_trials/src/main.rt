@@ -7,16 +7,19 @@
 // It writes a line for each difference, and last how many trees or patterns of closed nodes and how many targets it went through;
 // for how many of these there is no budget; and how many refusals by rules 13 and 14 there were.
 #![tactic(auto)]
+
 ghost use Rattle.std.specs.Prelude.{◌≤◌};
 
 use least_budget::LeastBudget;
 use small_trees::SmallTree;
+use std::io;
+use std::io::{BufWriter, Write};
 use units::Total;
 
 // ---- the reference
 
 // The set and the total of the plan at each budget from 0 to k, by enumeration.
-#[derive(Drop)]
+#[derive(Clone, Copy)]
 struct Plans {
     sets: [u8; 7],
     totals: [u64; 7],
@@ -84,28 +87,37 @@ fn found_budget(answer: LeastBudget) -> usize {
 }
 
 // The budget and the row against the reference. Each entry of the row was 7, which is no node.
-fn check_answer(i: u64, k: usize, plans: Plans, target: u64, budget: usize, row: &[u16])
+fn check_answer<W: Write>(
+    out: &mut W,
+    i: u64,
+    k: usize,
+    plans: Plans,
+    target: u64,
+    budget: usize,
+    row: &[u16],
+) -> io::Result<()>
     requires { k ≤ 6 }
 {
     let wanted = least_within(plans, k, target);
     if budget != wanted {
-        trial_text::print_difference(i, wanted, b" least budget");
+        trial_text::print_difference(out, i, wanted, b" least budget")?;
     }
     if wanted == NONE {
         if !trial_buffers::all_nodes_from(row, 0, 7) {
-            trial_text::print_difference(i, k, b" row of no budget");
+            trial_text::print_difference(out, i, k, b" row of no budget")?;
         }
     } else {
         if !small_trees::holds_set(row, k, set_at(plans, wanted)) {
-            trial_text::print_difference(i, wanted, b" row");
+            trial_text::print_difference(out, i, wanted, b" row")?;
         }
     }
+    Ok(())
 }
 
 // ---- the counts
 
 // How many trees and targets were gone through, for how many of these there is no budget, and how many refusals there were.
-#[derive(Drop)]
+#[derive(Clone, Copy)]
 struct Count {
     trees: u64,
     targets: u64,
@@ -147,7 +159,8 @@ fn with_refusal(so_far: Count) -> Count {
 // ---- each target
 
 // One target, with these words and entries.
-fn check_lent(
+fn check_lent<W: Write>(
+    out: &mut W,
     i: u64,
     k: usize,
     plans: Plans,
@@ -156,16 +169,17 @@ fn check_lent(
     scratch: &mut [u64],
     row: &mut [u16],
     so_far: Count,
-) -> Count
+) -> io::Result<Count>
     requires { k ≤ 6 }
 {
     let budget = found_budget(least_budget::from_target(file, Total(target), scratch, row));
-    check_answer(i, k, plans, target, budget, row);
-    with_target(so_far, budget)
+    check_answer(out, i, k, plans, target, budget, row)?;
+    Ok(with_target(so_far, budget))
 }
 
 // Lends just the k entries of the row that are asked.
-fn check_target(
+fn check_target<W: Write>(
+    out: &mut W,
     i: u64,
     k: usize,
     plans: Plans,
@@ -173,11 +187,21 @@ fn check_target(
     file: &[u8],
     scratch: &mut [u64],
     so_far: Count,
-) -> Count
+) -> io::Result<Count>
     requires { k ≤ 6 }
 {
     let mut row = [7u16; 6];
-    check_lent(i, k, plans, target, file, scratch, &mut row[0..k], so_far)
+    check_lent(
+        out,
+        i,
+        k,
+        plans,
+        target,
+        file,
+        scratch,
+        &mut row[0..k],
+        so_far,
+    )
 }
 
 fn one_less(total: u64) -> u64 {
@@ -185,7 +209,8 @@ fn one_less(total: u64) -> u64 {
 }
 
 // A total, one less and one more. One less than 0 is 0.
-fn check_around(
+fn check_around<W: Write>(
+    out: &mut W,
     i: u64,
     k: usize,
     plans: Plans,
@@ -193,50 +218,52 @@ fn check_around(
     file: &[u8],
     scratch: &mut [u64],
     so_far: Count,
-) -> Count
+) -> io::Result<Count>
     requires { k ≤ 6 }
 {
     let above = std::num::wrapping_add_u64(total, 1);
-    let one = check_target(i, k, plans, total, file, scratch, so_far);
-    let two = check_target(i, k, plans, one_less(total), file, scratch, one);
-    check_target(i, k, plans, above, file, scratch, two)
+    let one = check_target(out, i, k, plans, total, file, scratch, so_far)?;
+    let two = check_target(out, i, k, plans, one_less(total), file, scratch, one)?;
+    check_target(out, i, k, plans, above, file, scratch, two)
 }
 
 // The targets about each plan's total, and the ends. The scratch is as the call before left it.
-fn check_targets(
+fn check_targets<W: Write>(
+    out: &mut W,
     i: u64,
     k: usize,
     plans: Plans,
     file: &[u8],
     scratch: &mut [u64],
     so_far: Count,
-) -> Count
+) -> io::Result<Count>
     requires { k ≤ 6 }
 {
-    let mut count = check_target(i, k, plans, 0, file, scratch, so_far);
-    count = check_target(i, k, plans, trial_text::MOST, file, scratch, count);
+    let mut count = check_target(out, i, k, plans, 0, file, scratch, so_far)?;
+    count = check_target(out, i, k, plans, trial_text::MOST, file, scratch, count)?;
     let mut b = 0;
     while b <= k {
-        count = check_around(i, k, plans, total_at(plans, b), file, scratch, count);
+        count = check_around(out, i, k, plans, total_at(plans, b), file, scratch, count)?;
         b += 1;
     }
-    count
+    Ok(count)
 }
 
 // Lends just the words of scratch that are asked.
-fn check_answers(
+fn check_answers<W: Write>(
+    out: &mut W,
     i: u64,
     tree: SmallTree,
     k: usize,
     plans: Plans,
     file: &[u8],
     so_far: Count,
-) -> Count
+) -> io::Result<Count>
     requires { k ≤ 6 }
 {
     let words = small_plans::scratch_words(tree);
     let mut scratch = [7u64; 300];
-    check_targets(i, k, plans, file, &mut scratch[0..words], so_far)
+    check_targets(out, i, k, plans, file, &mut scratch[0..words], so_far)
 }
 
 // ---- refusals, and what lies beyond the words and entries asked
@@ -250,30 +277,33 @@ fn is_refused(answer: LeastBudget, rule: u8) -> bool {
 }
 
 // A refusal by this rule, which leaves the scratch and the row as they were.
-fn check_refusal_lent(
+fn check_refusal_lent<W: Write>(
+    out: &mut W,
     i: u64,
     file: &[u8],
     target: u64,
     scratch: &mut [u64],
     row: &mut [u16],
     rule: u8,
-) {
+) -> io::Result<()> {
     if !is_refused(
         least_budget::from_target(file, Total(target), scratch, row),
         rule,
     ) {
-        trial_text::print_difference(i, rule as usize, b" refusal by the rule");
+        trial_text::print_difference(out, i, rule as usize, b" refusal by the rule")?;
     }
     if !trial_buffers::all_from(scratch, 0, 7) {
-        trial_text::print_difference(i, rule as usize, b" scratch of a refusal");
+        trial_text::print_difference(out, i, rule as usize, b" scratch of a refusal")?;
     }
     if !trial_buffers::all_nodes_from(row, 0, 7) {
-        trial_text::print_difference(i, rule as usize, b" row of a refusal");
+        trial_text::print_difference(out, i, rule as usize, b" row of a refusal")?;
     }
+    Ok(())
 }
 
 // Lends so many words and entries, with which the call is refused by this rule.
-fn check_refused(
+fn check_refused<W: Write>(
+    out: &mut W,
     i: u64,
     words: usize,
     entries: usize,
@@ -281,39 +311,56 @@ fn check_refused(
     target: u64,
     rule: u8,
     so_far: Count,
-) -> Count
+) -> io::Result<Count>
     requires { (words ≤ 234) × (entries ≤ 6) }
 {
     let mut scratch = [7u64; 300];
     let mut row = [7u16; 6];
     check_refusal_lent(
+        out,
         i,
         file,
         target,
         &mut scratch[0..words],
         &mut row[0..entries],
         rule,
-    );
-    with_refusal(so_far)
+    )?;
+    Ok(with_refusal(so_far))
 }
 
 // One word less than is asked, one entry less, and both: rule 13 comes before rule 14.
-fn check_short(i: u64, words: usize, k: usize, file: &[u8], target: u64, so_far: Count) -> Count
+fn check_short<W: Write>(
+    out: &mut W,
+    i: u64,
+    words: usize,
+    k: usize,
+    file: &[u8],
+    target: u64,
+    so_far: Count,
+) -> io::Result<Count>
     requires { (words ≤ 234) × (k ≤ 6) }
 {
     if words == 0 {
-        return so_far;
+        return Ok(so_far);
     }
-    let count = check_refused(i, words - 1, k, file, target, 13, so_far);
+    let count = check_refused(out, i, words - 1, k, file, target, 13, so_far)?;
     if k == 0 {
-        return count;
+        return Ok(count);
     }
-    let more = check_refused(i, words, k - 1, file, target, 14, count);
-    check_refused(i, words - 1, k - 1, file, target, 13, more)
+    let more = check_refused(out, i, words, k - 1, file, target, 14, count)?;
+    check_refused(out, i, words - 1, k - 1, file, target, 13, more)
 }
 
 // The words and entries beyond those asked stay as they were.
-fn check_beyond(i: u64, words: usize, k: usize, plans: Plans, file: &[u8], target: u64)
+fn check_beyond<W: Write>(
+    out: &mut W,
+    i: u64,
+    words: usize,
+    k: usize,
+    plans: Plans,
+    file: &[u8],
+    target: u64,
+) -> io::Result<()>
     requires { k ≤ 6 }
 {
     let mut scratch = [7u64; 300];
@@ -324,73 +371,76 @@ fn check_beyond(i: u64, words: usize, k: usize, plans: Plans, file: &[u8], targe
         &mut scratch,
         &mut row,
     ));
-    check_answer(i, k, plans, target, budget, &row);
+    check_answer(out, i, k, plans, target, budget, &row)?;
     if !trial_buffers::all_from(&scratch, words, 7) {
-        trial_text::print_difference(i, k, b" scratch beyond");
+        trial_text::print_difference(out, i, k, b" scratch beyond")?;
     }
     if !trial_buffers::all_nodes_from(&row, k, 7) {
-        trial_text::print_difference(i, k, b" row beyond");
+        trial_text::print_difference(out, i, k, b" row beyond")?;
     }
+    Ok(())
 }
 
 // A target within reach, the plan's total at k, and one out of reach, if there is one.
-fn check_borders(
+fn check_borders<W: Write>(
+    out: &mut W,
     i: u64,
     tree: SmallTree,
     k: usize,
     plans: Plans,
     file: &[u8],
     so_far: Count,
-) -> Count
+) -> io::Result<Count>
     requires { k ≤ 6 }
 {
     let words = small_plans::scratch_words(tree);
     let least = total_at(plans, k);
-    check_beyond(i, words, k, plans, file, least);
-    let count = check_short(i, words, k, file, least, so_far);
+    check_beyond(out, i, words, k, plans, file, least)?;
+    let count = check_short(out, i, words, k, file, least, so_far)?;
     if least == 0 {
-        return count;
+        return Ok(count);
     }
-    check_beyond(i, words, k, plans, file, least - 1);
-    check_short(i, words, k, file, least - 1, count)
+    check_beyond(out, i, words, k, plans, file, least - 1)?;
+    check_short(out, i, words, k, file, least - 1, count)
 }
 
 // ---- the trees
 
-fn check_tree(i: u64, tree: SmallTree, so_far: Count) -> Count {
+fn check_tree<W: Write>(out: &mut W, i: u64, tree: SmallTree, so_far: Count) -> io::Result<Count> {
     let k = small_trees::budget_of(tree);
     let plans = plans_of(tree, k);
     let mut space = [0u8; 87];
     let n = small_trees::write_file(tree, &mut space);
     let file = &space[0..n];
-    let count = check_borders(i, tree, k, plans, file, with_tree(so_far));
-    check_answers(i, tree, k, plans, file, count)
+    let count = check_borders(out, i, tree, k, plans, file, with_tree(so_far))?;
+    check_answers(out, i, tree, k, plans, file, count)
 }
 
 // The trees of these numbers.
-fn check_trees(first: u64, end: u64) -> Count {
+fn check_trees<W: Write>(out: &mut W, first: u64, end: u64) -> io::Result<Count> {
     let mut count = NO_COUNT;
     let mut i = first;
     while i < end {
         if tree_sequence::has_tree(i) {
-            count = check_tree(i, tree_sequence::nth_tree(i), count);
+            count = check_tree(out, i, tree_sequence::nth_tree(i), count)?;
         }
         i += 1;
     }
-    count
+    Ok(count)
 }
 
-fn print_count(what: &[u8], count: Count) {
-    trial_text::print_count(what, count.trees);
-    trial_text::print_count(b"targets", count.targets);
-    trial_text::print_count(b"targets with no budget", count.none);
-    trial_text::print_count(b"refusals by rules 13 and 14", count.refusals);
+fn print_count<W: Write>(out: &mut W, what: &[u8], count: Count) -> io::Result<()> {
+    trial_text::print_count(out, what, count.trees)?;
+    trial_text::print_count(out, b"targets", count.targets)?;
+    trial_text::print_count(out, b"targets with no budget", count.none)?;
+    trial_text::print_count(out, b"refusals by rules 13 and 14", count.refusals)
 }
 
-fn main() {
-    print_count(b"trees", check_trees(0, tree_sequence::TREES));
-    print_count(
-        b"patterns of closed nodes",
-        check_trees(tree_sequence::TREES, tree_sequence::END),
-    );
+fn main(rt: HostRuntime) -> io::Result<()> {
+    let mut out = BufWriter::new(rt.alloc(), io::writer(&rt))?;
+    let trees = check_trees(&mut out, 0, tree_sequence::TREES)?;
+    print_count(&mut out, b"trees", trees)?;
+    let patterns = check_trees(&mut out, tree_sequence::TREES, tree_sequence::END)?;
+    print_count(&mut out, b"patterns of closed nodes", patterns)?;
+    out.flush()
 }

@@ -4,16 +4,25 @@
 // `NAME refused RULE RECORD`, then both buffers, whole, and whether the words of the scratch from BEYOND on are as they were.
 // Before the call each word of the scratch is 5432123, each total 987654321 and each entry of the rows 4321.
 #![tactic(auto)]
-use libc::STDIN_FILENO;
 
-fn answer(file: &[u8], beyond: usize, scratch: &mut [u64], totals: &mut [u64], rows: &mut [u16]) {
-    trial_text::print_ruling(optimum::plan(file, scratch, totals, rows));
-    trial_text::print_plan(totals, rows);
-    trial_text::print_kept(scratch, beyond, 5432123);
+use std::io;
+use std::io::{BufWriter, Write};
+
+fn answer<W: Write>(
+    out: &mut W,
+    file: &[u8],
+    beyond: usize,
+    scratch: &mut [u64],
+    totals: &mut [u64],
+    rows: &mut [u16],
+) -> io::Result<()> {
+    trial_text::print_ruling(out, optimum::plan(file, scratch, totals, rows))?;
+    trial_text::print_plan(out, totals, rows)?;
+    trial_text::print_kept(out, scratch, beyond, 5432123)
 }
 
 // Lends as much of each buffer as the line says.
-fn answer_file(line: &[u8], file: &[u8]) {
+fn answer_file<W: Write>(out: &mut W, line: &[u8], file: &[u8]) -> io::Result<()> {
     let mut scratch = trial_text::scratch_room(5432123);
     let a = trial_text::entries(line, 1, 40960);
     let beyond = trial_text::entries(line, 2, 40960);
@@ -22,32 +31,36 @@ fn answer_file(line: &[u8], file: &[u8]) {
     let mut rows = [4321u16; 1100];
     let c = trial_text::entries(line, 4, 1100);
     answer(
+        out,
         file,
         beyond,
         &mut scratch[0..a],
         &mut totals[0..b],
         &mut rows[0..c],
-    );
+    )
 }
 
-fn answer_line(line: &[u8]) {
-    trial_text::print_name(line);
+fn answer_line<W: Write>(out: &mut W, line: &[u8]) -> io::Result<()> {
+    trial_text::print_name(out, line)?;
     let mut file = trial_text::file_room();
     let n = trial_text::file_of(line, 5, &mut file);
-    answer_file(line, &file[0..n]);
-    trial_text::end_line();
+    answer_file(out, line, &file[0..n])?;
+    trial_text::end_line(out)
 }
 
-fn answer_lines(text: &[u8]) {
+fn answer_lines<W: Write>(out: &mut W, text: &[u8]) -> io::Result<()> {
     let mut at = 0;
     while at < text.len() {
-        answer_line(trial_text::up_to(text, at, b'\n'));
+        answer_line(out, trial_text::up_to(text, at, b'\n'))?;
         at = trial_text::past(text, at, b'\n');
     }
+    Ok(())
 }
 
-fn main() {
+fn main(rt: HostRuntime) -> io::Result<()> {
     let mut text = trial_text::text_room();
-    let n = io::read_full(STDIN_FILENO, &mut text);
-    answer_lines(&text[..n]);
+    let n = first_bytes::read_into(&mut rt.stdin(), &mut text)?;
+    let mut out = BufWriter::new(rt.alloc(), io::writer(&rt))?;
+    answer_lines(&mut out, &text[..n])?;
+    out.flush()
 }

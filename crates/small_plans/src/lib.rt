@@ -3,6 +3,7 @@
 // Nothing here is shared with the planner, so that a program can set one against the other. What a definition says of
 // every node is written out for the six; a node that the tree lacks has no flow.
 #![tactic(auto)]
+
 ghost use Rattle.std.specs.Prelude.{◌*◌, ◌≤◌};
 
 use small_trees::SmallTree;

@@ -2,11 +2,12 @@
 //
 // Nothing here is shared with the planner. A set is a mask with bit v for node v.
 #![tactic(auto)]
+
 ghost use Rattle.std.specs.Prelude.{◌≤◌, length};
 
 // What a tree file says of a node. The share of its flow that a cache can serve is a hit ratio in thousandths in version 1,
 // and cachable bytes from version 2 on. A node is open where a cache may stand there: in versions 1 and 2 each node is.
-#[derive(Drop)]
+#[derive(Clone, Copy)]
 pub struct Record {
     pub parent: u16,
     pub length: u16,
@@ -16,7 +17,7 @@ pub struct Record {
 }
 
 // A tree and the version of its file, with zeros for the nodes that it lacks.
-#[derive(Drop)]
+#[derive(Clone, Copy)]
 pub struct SmallTree {
     pub version: u16,
     pub nodes: usize,
@@ -282,9 +283,9 @@ fn header(tree: SmallTree) -> [u8; 9] {
     let nodes = tree.nodes;
     let budget = tree.budget;
     [
-        b'_k',
-        b'_t',
-        b'_r',
+        b'K',
+        b'T',
+        b'R',
         (version / 256) as u8,
         (version % 256) as u8,
         (nodes / 256 % 256) as u8,

@@ -5,88 +5,93 @@
 // the mask says, for each set in order of masks how many rank before it, the words of scratch that are asked, and for each node
 // and each budget the least totals with the node and without it.
 #![tactic(auto)]
+
 ghost use Rattle.std.specs.Prelude.{◌≤◌};
 
-use libc::{STDIN_FILENO, STDOUT_FILENO};
 use small_plans::Least;
 use small_trees::SmallTree;
+use std::io;
+use std::io::{BufWriter, Write};
 
-fn print_file(tree: SmallTree) {
+fn print_file<W: Write>(out: &mut W, tree: SmallTree) -> io::Result<()> {
     let mut space = [0u8; 87];
     let n = small_trees::write_file(tree, &mut space);
-    trial_text::print_bytes(&space[0..n]);
+    trial_text::print_bytes(out, &space[0..n])
 }
 
-fn print_set(set: u8) {
+fn print_set<W: Write>(out: &mut W, set: u8) -> io::Result<()> {
     let mut space = [0u16; 5];
     let n = small_trees::write_set(set, &mut space);
-    trial_text::print_numbers(&space[0..n]);
+    trial_text::print_numbers(out, &space[0..n])
 }
 
 // ---- the plan and the greedy rule, at budgets up to the tree's
 
-fn print_plan(tree: SmallTree, b: usize) {
+fn print_plan<W: Write>(out: &mut W, tree: SmallTree, b: usize) -> io::Result<()> {
     if b <= tree.budget {
         let set = small_plans::plan(tree, b);
-        io::write_all(STDOUT_FILENO, b" plan");
-        trial_text::print_number(small_plans::total(tree, set));
-        print_set(set);
+        out.write_all(b" plan")?;
+        trial_text::print_number(out, small_plans::total(tree, set))?;
+        print_set(out, set)?;
     }
+    Ok(())
 }
 
-fn print_plans(tree: SmallTree) {
-    print_plan(tree, 0);
-    print_plan(tree, 1);
-    print_plan(tree, 2);
-    print_plan(tree, 3);
-    print_plan(tree, 4);
-    print_plan(tree, 5);
-    print_plan(tree, 6);
+fn print_plans<W: Write>(out: &mut W, tree: SmallTree) -> io::Result<()> {
+    print_plan(out, tree, 0)?;
+    print_plan(out, tree, 1)?;
+    print_plan(out, tree, 2)?;
+    print_plan(out, tree, 3)?;
+    print_plan(out, tree, 4)?;
+    print_plan(out, tree, 5)?;
+    print_plan(out, tree, 6)
 }
 
 // The greedy total after at most b steps, and the node that it takes next within the budget.
-fn print_step(tree: SmallTree, b: usize) {
+fn print_step<W: Write>(out: &mut W, tree: SmallTree, b: usize) -> io::Result<()> {
     if b <= tree.budget {
         let set = small_plans::greedy(tree, b);
-        trial_text::print_number(small_plans::total(tree, set));
+        trial_text::print_number(out, small_plans::total(tree, set))?;
         if b < tree.budget {
-            trial_text::print_number(small_plans::greedy_node(tree, set) as u64);
+            trial_text::print_number(out, small_plans::greedy_node(tree, set) as u64)?;
         }
     }
+    Ok(())
 }
 
-fn print_greedy(tree: SmallTree) {
-    io::write_all(STDOUT_FILENO, b" greedy");
-    print_step(tree, 0);
-    print_step(tree, 1);
-    print_step(tree, 2);
-    print_step(tree, 3);
-    print_step(tree, 4);
-    print_step(tree, 5);
-    print_step(tree, 6);
+fn print_greedy<W: Write>(out: &mut W, tree: SmallTree) -> io::Result<()> {
+    out.write_all(b" greedy")?;
+    print_step(out, tree, 0)?;
+    print_step(out, tree, 1)?;
+    print_step(out, tree, 2)?;
+    print_step(out, tree, 3)?;
+    print_step(out, tree, 4)?;
+    print_step(out, tree, 5)?;
+    print_step(out, tree, 6)
 }
 
 // ---- the bill
 
 // The serving node of v and the load above it.
-fn print_node(tree: SmallTree, set: u8, v: usize) {
+fn print_node<W: Write>(out: &mut W, tree: SmallTree, set: u8, v: usize) -> io::Result<()> {
     if v < tree.nodes {
-        trial_text::print_number(small_plans::serving(tree, set, v) as u64);
-        trial_text::print_number(small_plans::load(tree, set, v));
+        trial_text::print_number(out, small_plans::serving(tree, set, v) as u64)?;
+        trial_text::print_number(out, small_plans::load(tree, set, v))?;
     }
+    Ok(())
 }
 
 // The total, by clients and by links, and every node's serving node and load.
-fn print_bill(tree: SmallTree, set: u8) {
-    io::write_all(STDOUT_FILENO, b" bill");
-    trial_text::print_number(small_plans::total(tree, set));
-    trial_text::print_number(small_plans::loads_by_lengths(tree, set));
-    print_node(tree, set, 0);
-    print_node(tree, set, 1);
-    print_node(tree, set, 2);
-    print_node(tree, set, 3);
-    print_node(tree, set, 4);
-    print_node(tree, set, 5);
+fn print_bill<W: Write>(out: &mut W, tree: SmallTree, set: u8) -> io::Result<()> {
+    out.write_all(b" bill")?;
+    trial_text::print_number(out, small_plans::total(tree, set))?;
+    trial_text::print_number(out, small_plans::loads_by_lengths(tree, set))?;
+    print_node(out, tree, set, 0)?;
+    print_node(out, tree, set, 1)?;
+    print_node(out, tree, set, 2)?;
+    print_node(out, tree, set, 3)?;
+    print_node(out, tree, set, 4)?;
+    print_node(out, tree, set, 5)
 }
 
 // ---- ranking
@@ -114,79 +119,83 @@ fn rank_of(tree: SmallTree, set: u8) -> u64 {
     rank
 }
 
-fn print_ranks(tree: SmallTree) {
-    io::write_all(STDOUT_FILENO, b" ranks");
+fn print_ranks<W: Write>(out: &mut W, tree: SmallTree) -> io::Result<()> {
+    out.write_all(b" ranks")?;
     let mut mask = 0;
     while mask < 64 {
         if small_plans::is_choice(tree, mask, 5) {
-            trial_text::print_number(rank_of(tree, mask));
+            trial_text::print_number(out, rank_of(tree, mask))?;
         }
         mask += 1;
     }
+    Ok(())
 }
 
-fn print_words(tree: SmallTree) {
-    io::write_all(STDOUT_FILENO, b" words");
-    trial_text::print_number(small_plans::scratch_words(tree) as u64);
+fn print_words<W: Write>(out: &mut W, tree: SmallTree) -> io::Result<()> {
+    out.write_all(b" words")?;
+    trial_text::print_number(out, small_plans::scratch_words(tree) as u64)
 }
 
 // ---- with a node, or without it
 
-fn print_least(least: Least) {
+fn print_least<W: Write>(out: &mut W, least: Least) -> io::Result<()> {
     match least {
         Least::Total(total) => {
-            trial_text::print_number(total);
+            trial_text::print_number(out, total)?;
         }
         Least::NoSet => {
-            io::write_all(STDOUT_FILENO, b" none");
+            out.write_all(b" none")?;
         }
     }
+    Ok(())
 }
 
-fn print_both(tree: SmallTree, v: usize, b: usize) {
+fn print_both<W: Write>(out: &mut W, tree: SmallTree, v: usize, b: usize) -> io::Result<()> {
     if b <= tree.budget {
-        print_least(small_plans::least_with(tree, v, b));
-        print_least(small_plans::least_without(tree, v, b));
+        print_least(out, small_plans::least_with(tree, v, b))?;
+        print_least(out, small_plans::least_without(tree, v, b))?;
     }
+    Ok(())
 }
 
-fn print_node_minima(tree: SmallTree, v: usize) {
+fn print_node_minima<W: Write>(out: &mut W, tree: SmallTree, v: usize) -> io::Result<()> {
     if v < tree.nodes {
-        io::write_all(STDOUT_FILENO, b" node");
-        trial_text::print_number(v as u64);
-        print_both(tree, v, 0);
-        print_both(tree, v, 1);
-        print_both(tree, v, 2);
-        print_both(tree, v, 3);
-        print_both(tree, v, 4);
-        print_both(tree, v, 5);
-        print_both(tree, v, 6);
+        out.write_all(b" node")?;
+        trial_text::print_number(out, v as u64)?;
+        print_both(out, tree, v, 0)?;
+        print_both(out, tree, v, 1)?;
+        print_both(out, tree, v, 2)?;
+        print_both(out, tree, v, 3)?;
+        print_both(out, tree, v, 4)?;
+        print_both(out, tree, v, 5)?;
+        print_both(out, tree, v, 6)?;
     }
+    Ok(())
 }
 
-fn print_minima(tree: SmallTree) {
-    print_node_minima(tree, 1);
-    print_node_minima(tree, 2);
-    print_node_minima(tree, 3);
-    print_node_minima(tree, 4);
-    print_node_minima(tree, 5);
+fn print_minima<W: Write>(out: &mut W, tree: SmallTree) -> io::Result<()> {
+    print_node_minima(out, tree, 1)?;
+    print_node_minima(out, tree, 2)?;
+    print_node_minima(out, tree, 3)?;
+    print_node_minima(out, tree, 4)?;
+    print_node_minima(out, tree, 5)
 }
 
 // ---- cases
 
-fn answer(tree: SmallTree, mask: u64) {
-    print_file(tree);
-    print_plans(tree);
-    print_greedy(tree);
-    print_bill(tree, (mask % 64) as u8);
-    print_ranks(tree);
-    print_words(tree);
-    print_minima(tree);
+fn answer<W: Write>(out: &mut W, tree: SmallTree, mask: u64) -> io::Result<()> {
+    print_file(out, tree)?;
+    print_plans(out, tree)?;
+    print_greedy(out, tree)?;
+    print_bill(out, tree, (mask % 64) as u8)?;
+    print_ranks(out, tree)?;
+    print_words(out, tree)?;
+    print_minima(out, tree)
 }
 
 fn tree_of(line: &[u8]) -> SmallTree {
     let source = trial_text::word(line, 2);
-    if check::same(trial_text::word(line, 1), b"nth") {
+    if trial_text::word(line, 1) == b"nth".as_slice() {
         return tree_sequence::nth_tree(trial_text::number(source));
     }
     let mut space = [0u8; 87];
@@ -194,22 +203,29 @@ fn tree_of(line: &[u8]) -> SmallTree {
     small_trees::read_file(&space[0..n])
 }
 
-fn answer_line(line: &[u8]) {
-    trial_text::print_name(line);
-    answer(tree_of(line), trial_text::number(trial_text::word(line, 3)));
-    trial_text::end_line();
+fn answer_line<W: Write>(out: &mut W, line: &[u8]) -> io::Result<()> {
+    trial_text::print_name(out, line)?;
+    answer(
+        out,
+        tree_of(line),
+        trial_text::number(trial_text::word(line, 3)),
+    )?;
+    trial_text::end_line(out)
 }
 
-fn answer_lines(text: &[u8]) {
+fn answer_lines<W: Write>(out: &mut W, text: &[u8]) -> io::Result<()> {
     let mut at = 0;
     while at < text.len() {
-        answer_line(trial_text::up_to(text, at, b'\n'));
+        answer_line(out, trial_text::up_to(text, at, b'\n'))?;
         at = trial_text::past(text, at, b'\n');
     }
+    Ok(())
 }
 
-fn main() {
+fn main(rt: HostRuntime) -> io::Result<()> {
     let mut text = trial_text::text_room();
-    let n = io::read_full(STDIN_FILENO, &mut text);
-    answer_lines(&text[..n]);
+    let n = first_bytes::read_into(&mut rt.stdin(), &mut text)?;
+    let mut out = BufWriter::new(rt.alloc(), io::writer(&rt))?;
+    answer_lines(&mut out, &text[..n])?;
+    out.flush()
 }

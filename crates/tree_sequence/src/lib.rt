@@ -1,6 +1,7 @@
 // A fixed sequence of trees of at most six nodes: 9,000 trees in all versions, and then the first 120 of them again in version 3,
 // with every pattern of closed nodes.
 #![tactic(auto)]
+
 ghost use Rattle.std.specs.Prelude.{◌≤◌};
 
 use small_trees::{Record, SmallTree};

@@ -1,6 +1,7 @@
 // What tests ask of the buffers that were lent to a call: an entry, a row, whether entries are as they were, and whether two
 // buffers are the same.
 #![tactic(auto)]
+
 ghost use Rattle.std.specs.Prelude.{◌≤◌};
 
 // An entry of a buffer, and the largest number past its end.

@@ -3,9 +3,11 @@
 // A word is a name, a number, a list of numbers apart by commas, or a file: pieces of hexadecimal digits apart by `+`,
 // where `*N` after a piece stands for N of it.
 #![tactic(auto)]
+
 ghost use Rattle.std.specs.Prelude.{◌≡◌, ◌+◌, ◌-◌, ◌≤◌, ◌<◌, length};
 
-use libc::STDOUT_FILENO;
+use std::io;
+use std::io::Write;
 use tree_file::Ruling;
 
 // The index of the first such byte from `at` on, else the length.
@@ -257,52 +259,47 @@ pub fn scratch_room(value: u64) -> [u64; 40960]
     [value; 40960]
 }
 
-// ---- answers, to standard output
+// ---- answers, to a writer
 
 // Prints the name of the case, which its line begins with.
-pub fn print_name(line: &[u8]) {
-    io::write_all(STDOUT_FILENO, word(line, 0));
+pub fn print_name<W: Write>(out: &mut W, line: &[u8]) -> io::Result<()> {
+    out.write_all(word(line, 0))
 }
 
-pub fn end_line() {
-    io::write_all(STDOUT_FILENO, b"\n");
+pub fn end_line<W: Write>(out: &mut W) -> io::Result<()> {
+    out.write_all(b"\n")
 }
 
 // Prints ` accepted`, or ` refused` with the rule and the record.
-pub fn print_ruling(ruling: Ruling) {
+pub fn print_ruling<W: Write>(out: &mut W, ruling: Ruling) -> io::Result<()> {
     match ruling {
-        Ruling::Passed => {
-            io::write_all(STDOUT_FILENO, b" accepted");
-        }
-        Ruling::Broken(rule, record) => {
-            print_refused(rule, record);
-        }
+        Ruling::Passed => out.write_all(b" accepted"),
+        Ruling::Broken(rule, record) => print_refused(out, rule, record),
     }
 }
 
-pub fn print_refused(rule: u8, record: u16) {
-    io::write_all(STDOUT_FILENO, b" refused");
-    print_number(rule as u64);
-    print_number(record as u64);
+pub fn print_refused<W: Write>(out: &mut W, rule: u8, record: u16) -> io::Result<()> {
+    out.write_all(b" refused")?;
+    print_number(out, rule as u64)?;
+    print_number(out, record as u64)
 }
 
-fn print_space() {
-    io::write_all(STDOUT_FILENO, b" ");
+fn print_space<W: Write>(out: &mut W) -> io::Result<()> {
+    out.write_all(b" ")
 }
 
 // Prints a space and a number.
-pub fn print_number(value: u64) {
-    print_space();
-    io::print_decimal(STDOUT_FILENO, value);
+pub fn print_number<W: Write>(out: &mut W, value: u64) -> io::Result<()> {
+    print_space(out)?;
+    write!(out, "{value}")
 }
 
 // Prints a space and a number for each of a list.
-pub fn print_numbers(values: &[u16]) {
-    let mut i = 0;
-    while i < values.len() {
-        print_number(wide(values[i]));
-        i += 1;
+pub fn print_numbers<W: Write>(out: &mut W, values: &[u16]) -> io::Result<()> {
+    for value in values {
+        print_number(out, wide(*value))?;
     }
+    Ok(())
 }
 
 fn wide(value: u16) -> u64 {
@@ -310,56 +307,60 @@ fn wide(value: u16) -> u64 {
 }
 
 // The same for a list of totals.
-pub fn print_totals(values: &[u64]) {
-    let mut i = 0;
-    while i < values.len() {
-        print_number(values[i]);
-        i += 1;
+pub fn print_totals<W: Write>(out: &mut W, values: &[u64]) -> io::Result<()> {
+    for value in values {
+        print_number(out, *value)?;
     }
+    Ok(())
 }
 
 // Prints the buffers of a plan.
-pub fn print_plan(totals: &[u64], rows: &[u16]) {
-    io::write_all(STDOUT_FILENO, b" totals");
-    print_totals(totals);
-    io::write_all(STDOUT_FILENO, b" rows");
-    print_numbers(rows);
+pub fn print_plan<W: Write>(out: &mut W, totals: &[u64], rows: &[u16]) -> io::Result<()> {
+    out.write_all(b" totals")?;
+    print_totals(out, totals)?;
+    out.write_all(b" rows")?;
+    print_numbers(out, rows)
 }
 
 // Prints ` kept` if all words of the scratch from `beyond` on are this value.
-pub fn print_kept(scratch: &[u64], beyond: usize, value: u64) {
+pub fn print_kept<W: Write>(
+    out: &mut W,
+    scratch: &[u64],
+    beyond: usize,
+    value: u64,
+) -> io::Result<()> {
     if trial_buffers::all_from(scratch, beyond, value) {
-        io::write_all(STDOUT_FILENO, b" kept");
+        out.write_all(b" kept")?;
     }
+    Ok(())
 }
 
 // Prints a space and the hexadecimal digits of the bytes.
-pub fn print_bytes(bytes: &[u8]) {
-    print_space();
-    let mut i = 0;
-    while i < bytes.len() {
-        print_byte(bytes[i]);
-        i += 1;
+pub fn print_bytes<W: Write>(out: &mut W, bytes: &[u8]) -> io::Result<()> {
+    print_space(out)?;
+    for byte in bytes {
+        print_byte(out, *byte)?;
     }
+    Ok(())
 }
 
-fn print_byte(byte: u8) {
-    io::print_hex(STDOUT_FILENO, byte as u64, 2);
+fn print_byte<W: Write>(out: &mut W, byte: u8) -> io::Result<()> {
+    write!(out, "{byte:02x}")
 }
 
 // Prints a line with how many there were of something.
-pub fn print_count(what: &[u8], count: u64) {
-    io::write_all(STDOUT_FILENO, what);
-    print_number(count);
-    end_line();
+pub fn print_count<W: Write>(out: &mut W, what: &[u8], count: u64) -> io::Result<()> {
+    out.write_all(what)?;
+    print_number(out, count)?;
+    end_line(out)
 }
 
 // Prints a line that something of tree i of a sequence differs at a budget, a node or a set.
-pub fn print_difference(i: u64, at: usize, what: &[u8]) {
-    io::write_all(STDOUT_FILENO, b"tree");
-    print_number(i);
-    io::write_all(STDOUT_FILENO, b" at");
-    print_number(at as u64);
-    io::write_all(STDOUT_FILENO, what);
-    io::write_all(STDOUT_FILENO, b" differs\n");
+pub fn print_difference<W: Write>(out: &mut W, i: u64, at: usize, what: &[u8]) -> io::Result<()> {
+    out.write_all(b"tree")?;
+    print_number(out, i)?;
+    out.write_all(b" at")?;
+    print_number(out, at as u64)?;
+    out.write_all(what)?;
+    out.write_all(b" differs\n")
 }
