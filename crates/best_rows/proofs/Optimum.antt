@@ -79,7 +79,7 @@ optimum_found file fits b =
     let found = allowed_found t d (accepted_sound file fits) (may_be t) b [] (set_allowed t b [] (empty_is_set t) (omega arith)) in
     let first = found.0 in
     let is = only_plan t d b _ (record {
-      is_aset = allowed_set t b _ first.fits;
+      is_a_set = allowed_set t b _ first.fits;
       within = first.fits.within;
       first = λ l g h. first.first l (set_allowed t b l g h);
     }) in
@@ -100,7 +100,7 @@ module _ (v : ℕ) (u : Bool) (k : List ℕ) where
   module _ (t : Tree) (b : ℕ) where
     where_allowed : SetWhere t b v u k → AllowedSet t (may_be_under t (wish v u)) b k
     where_allowed s =
-        let set = set_allowed t b k s.is_aset s.within in
+        let set = set_allowed t b k s.is_a_set s.within in
         record {
           ascending = set.ascending;
           within = set.within;
@@ -109,7 +109,7 @@ module _ (v : ℕ) (u : Bool) (k : List ℕ) where
 
     allowed_where : 1 ≤ v → v < t.count → AllowedSet t (may_be_under t (wish v u)) b k → SetWhere t b v u k
     allowed_where some node a = record {
-      is_aset =
+      is_a_set =
           allowed_set t b k
           (record { ascending = a.ascending; within = a.within; allowed = λ x i. (both (grants (wish v u) x (has k x)) _ (a.allowed x i)).1 });
       within = a.within;

@@ -91,7 +91,7 @@ module _ (f h : List ℕ) (first_fits : accepted f ≡ true) (fits : accepted h 
   own_plan_least : (b : ℕ) → plan_total (tree_of f) (demand_of f) b ≤ total (tree_of f) (demand_of f) (plan (tree_of h) (demand_of h) b)
   own_plan_least b =
       let held = plan_ranks_first (tree_of h) (demand_of h) b in
-      plan_least (tree_of f) (demand_of f) b (plan (tree_of h) (demand_of h) b) (rw tree_alike held.is_aset) held.within
+      plan_least (tree_of f) (demand_of f) b (plan (tree_of h) (demand_of h) b) (rw tree_alike held.is_a_set) held.within
 
 -- ---- three files of which the third has the sums
 
@@ -183,7 +183,7 @@ adds_lawful = record {
       let held = plan_ranks_first (tree_of h) (demand_of h) b in
       let both = totals_add_lem f g h adds p in
       let least = at_plan f g h adds b in (
-        λ e. (p, held.is_aset, held.within, omega (arith, both, least.0, least.1), omega (arith, both, least.0, least.1)),
+        λ e. (p, held.is_a_set, held.within, omega (arith, both, least.0, least.1), omega (arith, both, least.0, least.1)),
         λ k. omega (
           arith,
           both,

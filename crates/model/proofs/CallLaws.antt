@@ -175,7 +175,7 @@ module _ (t : Tree) (d : Demand) (b : ℕ) where
   optimum_ranks_first : (held : List ℕ) (p g : ℕ) → HoldsOptimum t d b held p g → RanksFirst t d b held
   optimum_ranks_first held p g h =
       record {
-        is_aset = h.is_aset;
+        is_a_set = h.is_a_set;
         within = h.within_budget;
         first = λ l s w n.
             (rank_said_lem t d held l).1

@@ -19,7 +19,7 @@ use Rattle.model.specs.LeastBudget.{first_within, least_budget, AllCostMore, Che
 use Rattle.model.proofs.Plans.{plan_ranks_first, plan_least}
 
 never_rise_lem : (t : Tree) (d : Demand) (b c : ℕ) → b ≤ c → plan_total t d c ≤ plan_total t d b
-never_rise_lem t d b c h = let p = plan_ranks_first t d b in plan_least t d c (plan t d b) p.is_aset (omega (arith, p.within))
+never_rise_lem t d b c h = let p = plan_ranks_first t d b in plan_least t d c (plan t d b) p.is_a_set (omega (arith, p.within))
 
 module _ (t : Tree) (d : Demand) (target : ℕ) where
   -- ---- the first budget of a range
@@ -73,13 +73,13 @@ module _ (t : Tree) (d : Demand) (target : ℕ) where
   all_cost_more b h l s w = omega (arith, plan_least t d b l s w)
 
   plan_costs_more : (b c : ℕ) → AllCostMore t d target b → c ≤ b → target < plan_total t d c
-  plan_costs_more b c h w = let p = plan_ranks_first t d c in h (plan t d c) p.is_aset (omega (arith, p.within))
+  plan_costs_more b c h w = let p = plan_ranks_first t d c in h (plan t d c) p.is_a_set (omega (arith, p.within))
 
   plan_cheap : (b : ℕ) → plan_total t d b ≤ target → CheapEnough t d target b (plan t d b)
-  plan_cheap b h = let p = plan_ranks_first t d b in record { is_aset = p.is_aset; within = p.within; cheap = h }
+  plan_cheap b h = let p = plan_ranks_first t d b in record { is_a_set = p.is_a_set; within = p.within; cheap = h }
 
   cheap_plan : (b : ℕ) (k : List ℕ) → CheapEnough t d target b k → plan_total t d b ≤ target
-  cheap_plan b k c = omega (arith, plan_least t d b k c.is_aset c.within, c.cheap)
+  cheap_plan b k c = omega (arith, plan_least t d b k c.is_a_set c.within, c.cheap)
 
 -- ---- the least budget
 
@@ -116,7 +116,7 @@ module _ (file : List ℕ) (target : ℕ) where
           | yes same ↦ same
           | no fewer ↦
               let costs_more = budget_found_lem.2 (length (plan t d b)) (omega (arith, p.within)) in
-              absurd (omega (arith, budget_found_lem.1, costs_more, plan_least t d (length (plan t d b)) (plan t d b) p.is_aset (omega arith)))
+              absurd (omega (arith, budget_found_lem.1, costs_more, plan_least t d (length (plan t d b)) (plan t d b) p.is_a_set (omega arith)))
         ]
 
   none_found_lem : least_budget file target ≡ none → target < plan_total t d (budget_of file)

@@ -70,7 +70,7 @@ module _ (t : Tree) (pre : Preorder t) (k : List ℕ) (u v : ℕ) (lower : Lower
     rival : is_set t (with_node v k) ≡ true
     rival =
         with_node_is_set t v k (omega (arith, lower.site, upper_before)) lower.site.1 free lower.outside.1
-        (without_node_is_set t u k (rw is at (plan_ranks_first t d b).is_aset))
+        (without_node_is_set t u k (rw is at (plan_ranks_first t d b).is_a_set))
 
     rival_within : length (with_node v k) ≤ b
     rival_within = omega (arith, as_long, ap length is, (plan_ranks_first t d b).within)

@@ -81,7 +81,7 @@ module _ (t : Tree) (d : Demand) (b : ℕ) where
   pub plan_ranks_first : RanksFirst t d b (plan t d b)
   plan_ranks_first =
       record {
-        is_aset = plan_fits_lem.0;
+        is_a_set = plan_fits_lem.0;
         within = plan_fits_lem.1;
         first = λ l g h n. ⊎_elim (λ e. absurd (n (sym e))) (λ p. p) (plan_no_later l g h);
       }
@@ -93,8 +93,8 @@ module _ (t : Tree) (d : Demand) (b : ℕ) where
       elim (List-discrete ℕ_discrete k (plan t d b)) [
         | yes e ↦ e
         | no n ↦
-            let before = r.first (plan t d b) p.is_aset p.within (λ e. n (sym e)) in
-            let after = p.first k r.is_aset r.within n in
+            let before = r.first (plan t d b) p.is_a_set p.within (λ e. n (sym e)) in
+            let after = p.first k r.is_a_set r.within n in
             absurd (rank_one_way t d k (plan t d b) before after)
       ]
 

@@ -34,7 +34,7 @@ pub plan_holds_optimum : (t : Tree) (d : Demand) → Sound t d → (b : ℕ) →
 plan_holds_optimum t d ok b =
     let p = plan_ranks_first t d b in
     record {
-      is_aset = p.is_aset;
+      is_a_set = p.is_a_set;
       within_budget = p.within;
       exact_total = refl;
       over_links = sym (links_total_lem t d ok.preorder (plan t d b) ok.server ok.part);
@@ -62,7 +62,7 @@ module _ (file : List ℕ) where
 
   plan_of_row : (b : ℕ) → those (λ v. not (eqb v 0)) (plan_row file b) ≡ plan t d b
   plan_of_row b =
-      those_of_row 0 t.count (budget_of file - length (plan t d b)) (plan t d b) (set_ascends t (plan t d b) (plan_ranks_first t d b).is_aset)
+      those_of_row 0 t.count (budget_of file - length (plan t d b)) (plan t d b) (set_ascends t (plan t d b) (plan_ranks_first t d b).is_a_set)
 
   -- what one row of the plan holds, whatever stands beyond it
   pub one_row_holds_plan : (rest : List ℕ) (b : ℕ) → b ≤ budget_of file → set_of_row (budget_of file) (plan_row file b ++ rest) 0 ≡ plan t d b

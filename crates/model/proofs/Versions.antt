@@ -419,7 +419,7 @@ module _ (g h : List ℕ) (same : AddsOpenBytes g h) where
       let held = plan_ranks_first (tree_of h) (demand_of h) b in
       omega (
         arith,
-        plan_least (tree_of g) (demand_of g) b (plan (tree_of h) (demand_of h) b) (still_set _ held.is_aset) held.within,
+        plan_least (tree_of g) (demand_of g) b (plan (tree_of h) (demand_of h) b) (still_set _ held.is_a_set) held.within,
         same_totals_lem g h adds_trees adds_wholes adds_cachables (plan (tree_of h) (demand_of h) b),
       )
 

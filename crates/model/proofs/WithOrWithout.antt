@@ -95,8 +95,8 @@ module _ (t : Tree) (d : Demand) where
   least_where_lem b v u p s =
       least_same (Passing p (all_sets t b)) (SetWhere t b v u)
       (λ k. (
-        λ m. let fits = (all_sets_lem t b k).0 m.0 in record { is_aset = fits.0; within = fits.1; contains = (s k).0 m.1 },
-        λ w. ((all_sets_lem t b k).1 (w.is_aset, w.within), (s k).1 w.contains),
+        λ m. let fits = (all_sets_lem t b k).0 m.0 in record { is_a_set = fits.0; within = fits.1; contains = (s k).0 m.1 },
+        λ w. ((all_sets_lem t b k).1 (w.is_a_set, w.within), (s k).1 w.contains),
       ))
       (least_of t d p (all_sets t b)) (least_of_said p (all_sets t b))
 
@@ -113,13 +113,13 @@ module _ (t : Tree) (d : Demand) where
 module _ (t : Tree) (b v : ℕ) where
   pub empty_where : SetWhere t b v false []
   unfolding has
-  empty_where = record { is_aset = empty_is_set t; within = omega arith; contains = refl }
+  empty_where = record { is_a_set = empty_is_set t; within = omega arith; contains = refl }
 
   pub single_where : 1 ≤ v → v < t.count → 1 ≤ b → t.is_open v ≡ true → SetWhere t b v true (v ∷ [])
   unfolding ascends
   single_where low high budget is_open =
       record {
-        is_aset = (set_said_lem t (v ∷ [])).1 (
+        is_a_set = (set_said_lem t (v ∷ [])).1 (
           (ascends_cons t.count 0 v []).1 (omega arith, high, refl),
           λ u. has_cases (t.is_open u ≡ true) v u [] (λ e. rw e at is_open) (λ m. absurd (has_none u m)),
         );
@@ -132,7 +132,7 @@ module _ (t : Tree) (b v : ℕ) where
   none_where (inl e) k w =
       let z = none_of_length k (omega (arith, w.within)) in
       has_none v (rw z at w.contains)
-  none_where (inr e) k w = not_both (((set_said_lem t k).0 w.is_aset).1 v w.contains) e
+  none_where (inr e) k w = not_both (((set_said_lem t k).0 w.is_a_set).1 v w.contains) e
 
 -- ---- what holds of the two
 
@@ -155,10 +155,10 @@ module _ (t : Tree) (d : Demand) (b v : ℕ) where
 
   -- the plan is one of the sets, and none of them costs less
   plan_where : (u : Bool) → has (plan t d b) v ≡ u → SetWhere t b v u (plan t d b)
-  plan_where u e = let held = plan_ranks_first t d b in record { is_aset = held.is_aset; within = held.within; contains = e }
+  plan_where u e = let held = plan_ranks_first t d b in record { is_a_set = held.is_a_set; within = held.within; contains = e }
 
   plan_least_where : (u : Bool) (k : List ℕ) → SetWhere t b v u k → plan_total t d b ≤ total t d k
-  plan_least_where u k w = plan_least t d b k w.is_aset w.within
+  plan_least_where u k w = plan_least t d b k w.is_a_set w.within
 
   smaller_is_plan_lem : lesser (with_it t d b v) (without_it t d b v) ≡ least_is (plan_total t d b)
   smaller_is_plan_lem =

@@ -17,7 +17,7 @@ use Rattle.model.specs.Greedy.{with_node, with_nodes, greedy_nodes, greedy_set, 
 
 -- K is a set of at most b nodes, and ranks before every other one
 pub record RanksFirst (t : Tree) (d : Demand) (b : ℕ) (k : List ℕ) : Type 0 where
-  pub is_aset : is_set t k ≡ true
+  pub is_a_set : is_set t k ≡ true
   pub within : length k ≤ b
   pub first : (l : List ℕ) → is_set t l ≡ true → length l ≤ b → (l ≡ k → ⊥) → ranks_before t d k l ≡ true
 

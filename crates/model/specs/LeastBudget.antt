@@ -50,7 +50,7 @@ module _ (t : Tree) (d : Demand) (target : ℕ) where
 
   -- L is a set of at most b nodes that costs no more than the target
   pub record CheapEnough (b : ℕ) (l : List ℕ) : Type 0 where
-    pub is_aset : is_set t l ≡ true
+    pub is_a_set : is_set t l ≡ true
     pub within : length l ≤ b
     pub cheap : total t d l ≤ target
 

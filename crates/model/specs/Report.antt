@@ -16,7 +16,7 @@ use Rattle.model.specs.Calls.{after, ScratchAfter, budgets, plan_totals, plan_ro
 -- what a report guarantees at budget b, of the set and the two totals that it holds there
 pub record HoldsOptimum (t : Tree) (d : Demand) (b : ℕ) (held : List ℕ) (plan_held greedy_held : ℕ) : Type 0 where
   -- "a set of at most b nodes"
-  pub is_aset : is_set t held ≡ true
+  pub is_a_set : is_set t held ≡ true
   pub within_budget : length held ≤ b
   -- "and its exact total"
   pub exact_total : plan_held ≡ total t d held

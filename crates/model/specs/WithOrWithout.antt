@@ -50,7 +50,7 @@ pub record WithOrWithoutCall (file : List ℕ) (v b : ℕ) (scratch : List ℕ) 
 
 -- K is one of the sets of at most b nodes that contain v (u is true), or of those that don't (u is false)
 pub record SetWhere (t : Tree) (b v : ℕ) (u : Bool) (k : List ℕ) : Type 0 where
-  pub is_aset : is_set t k ≡ true
+  pub is_a_set : is_set t k ≡ true
   pub within : length k ≤ b
   pub contains : has k v ≡ u
 
