@@ -16,11 +16,11 @@ VERSION := $(shell sed -n 's/^.define KTERC_VERSION "\(.*\)"$$/\1/p' include/kte
 SONAME := libkterc.so.$(firstword $(subst ., ,$(VERSION)))
 CALLS := $(shell sed -n 's/^[a-z].*\(kterc_[a-z_]*\).*/\1/p' include/kterc.h)
 
-# The proved archive, and what is proved for it: source, specs and proofs of kterc_c and of the crates below it, which stand above
+# The proved archive, and what is proved for it: source, specs and proofs of kterc_c_c and of the crates below it, which stand above
 # its line in crates.txt. Folders count too, so that a file that was removed is noticed.
 PROVED := target/staticlib/libkterc_c.a
 CRATES := $(shell tac crates.txt | \
-    awk -F '[: ]+' 'BEGIN { need["kterc_c"] } $$1 in need { print $$1; for (i = 2; i <= NF; i++) need[$$i] }')
+    awk -F '[: ]+' 'BEGIN { need["kterc_c_c"] } $$1 in need { print $$1; for (i = 2; i <= NF; i++) need[$$i] }')
 PROVED_FROM := crates.txt $(shell find $(wildcard $(foreach part,src specs proofs,$(CRATES:%=crates/%/$(part)))))
 
 LIBRARY := target/lib/libkterc.a
@@ -47,9 +47,9 @@ lib: $(LIBRARY) $(SHARED) $(LINKS)
 	@:
 
 $(PROVED): $(PROVED_FROM)
-	@mkdir -p target
-	$(RT) staticlib kterc_c > target/library.log 2>&1 || { cat target/library.log >&2; exit 1; }
-	@touch $@
+	@mkdir -p $(@D)
+	cd crates/kterc_c_c && $(RT) lib > ../../target/library.log 2>&1 || { cat ../../target/library.log >&2; exit 1; }
+	cp crates/kterc_c_c/out/libkterc_c_c.a $@
 
 $(LIBRARY): $(PROVED) $(TEXT_OBJECTS)
 	@mkdir -p $(@D)
