@@ -12,16 +12,16 @@ use lib.Seq.{get_or-drop}
 use borrow.Author.Tests.{leb-true, le-leb, ltb-true, lt-ltb}
 use Rattle.laws.proofs.Bools.{both}
 use Rattle.model.specs.File.{Tree, Demand, tree_of, demand_of, count_of, budget_of}
-use Rattle.model.specs.Rules.{Verdict, passed, file_verdict, ask_node, scratch_words, ask_scratch, long_enough}
+use Rattle.model.specs.Rules.{Verdict, passed, ◌then◌, file_verdict, is_set, ask_set, ask_node, scratch_words, ask_scratch, long_enough}
 use Rattle.model.specs.Bill.{total_limit, total, link_total}
 use Rattle.model.specs.Ties.{ranks_before}
 use Rattle.model.specs.Plan.{plan, plan_total}
 use Rattle.model.specs.Greedy.{greedy_total}
-use Rattle.model.specs.Calls.{answered, refused, Least, none, least_is, ScratchAfter, Winner, named, first, second, rank_verdict, ranking, plan_buffers_long, greedy_buffers_long}
+use Rattle.model.specs.Calls.{answered, refused, Least, none, least_is, ScratchAfter, Winner, named, first, second, BillMemory, bill_verdict, rank_verdict, ranking, plan_buffers_long, greedy_buffers_long}
 use Rattle.model.specs.WithOrWithout.{with_it, with_or_without_verdict, without_it, both_least, WithOrWithoutCall, SetWhere, LeastAmong, LeastWhere}
 use Rattle.model.specs.LeastBudget.{least_budget, least_budget_verdict}
 use Rattle.model.specs.Report.{HoldsOptimum}
-use Rattle.model.specs.Hosts.{code_of, no_total, total_or_none, HostWithOrWithoutMemory, HostWithOrWithoutCall}
+use Rattle.model.specs.Hosts.{code_of, HostBillMemory, host_bill_verdict, no_total, total_or_none, HostWithOrWithoutMemory, HostWithOrWithoutCall}
 use Rattle.model.specs.Laws.{RanksFirst}
 use Rattle.model.specs.CallLaws.{RankingSaid, CodeSaid, StaysFrom, LeastTold, CallsLawful}
 use Rattle.model.proofs.Verdicts.{ask_passed, then_passed, answered_passed, refused_broken}
@@ -37,6 +37,26 @@ use Rattle.model.proofs.Targets.{least_budget_answers_lem, least_budget_found_le
 use Rattle.model.proofs.Told.{rank_told_lem, record_told_lem}
 use Rattle.model.proofs.Decimals.{decimal_reads}
 use Rattle.model.proofs.Written.{length_serving_nodes, length_link_loads, length_plan_totals, length_plan_row, length_plan_rows, length_greedy_totals, length_greedy_row}
+
+-- ---- rule 12, right after the rules about the file
+
+module _ (file set : List ℕ) where
+  set_asked_lem : (rest : Verdict) → (file_verdict file then ask_set file set then rest) ≡ passed → (is_set (tree_of file) set ≡ true) × (rest ≡ passed)
+  set_asked_lem rest h =
+      let asked = then_passed (ask_set file set) rest (then_passed (file_verdict file) _ h).1 in
+      (ask_passed 12 0 (is_set (tree_of file) set) asked.0, asked.1)
+
+  billed_is_set_lem : (memory : BillMemory) → bill_verdict file set memory ≡ passed → is_set (tree_of file) set ≡ true
+  unfolding bill_verdict
+  billed_is_set_lem memory h = (set_asked_lem _ h).0
+
+  host_billed_is_set_lem : (memory : HostBillMemory) → host_bill_verdict file set memory ≡ passed → is_set (tree_of file) set ≡ true
+  unfolding host_bill_verdict
+  host_billed_is_set_lem memory h = (set_asked_lem _ h).0
+
+ranked_are_sets_lem : (file k l : List ℕ) → rank_verdict file k l ≡ passed → (is_set (tree_of file) k ≡ true) × (is_set (tree_of file) l ≡ true)
+unfolding rank_verdict
+ranked_are_sets_lem file k l h = let asked = set_asked_lem file k (ask_set file l) h in (asked.0, ask_passed 12 0 (is_set (tree_of file) l) asked.1)
 
 -- ---- rule 16
 
@@ -197,9 +217,9 @@ pub calls_lawful : (file : List ℕ) → CallsLawful file
 calls_lawful file =
     record {
       rankings = ranking_said file;
-      billed_is_set = λ set memory h. ((bill_asked_lem file set memory).passes.0 h).1;
-      host_billed_is_set = λ set memory h. ((host_bill_asked_lem file set memory).passes.0 h).1;
-      ranked_are_sets = λ k l h. ((rank_asked_lem file k l).passes.0 h).1;
+      billed_is_set = billed_is_set_lem file;
+      host_billed_is_set = host_billed_is_set_lem file;
+      ranked_are_sets = ranked_are_sets_lem file;
       bill_asked = bill_asked_lem file;
       host_bill_asked = host_bill_asked_lem file;
       rank_asked = rank_asked_lem file;
