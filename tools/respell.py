@@ -86,6 +86,8 @@ def main(root):
 
         def one(m):
             w = m[1]
+            if re.fullmatch(r"b'.'", w):
+                return w  # a byte of the code
             before = m.string[m.start() - 1] if m.start() else " "
             if w in camel:
                 return camel[w]
