@@ -2,7 +2,7 @@
  *
  *     cc program.c $(pkg-config --cflags --libs kterc)
  *
- * Library. libkterc.a and libkterc.so are made of libkterc_c.a, the proved calls as `rt staticlib kterc_c` writes them, and of two
+ * Library. libkterc.a and libkterc.so are made of libkterc_c.a, the proved calls as `rt lib` writes them of the crate kterc_c_c, and of two
  * functions in plain C that hold text and are not proved: kterc_version and kterc_rule_text. These two are not in libkterc_c.a.
  *
  * Memory. The host owns all of it: the library allocates nothing, keeps no pointer after a call and has no state, so calls on

@@ -12,11 +12,11 @@ sibling_of-sibling-requires c = served_room c.requires.table c.requires.served
 pub fill_last-requires : goal.fill_last-requires
 fill_last-requires c = record {
   line_to_fill = c.requires;
-  child_and_sibling = (c.child_of-child.ensures, omega (arith, c.sibling_of-sibling.ensures, c.if-sibling-eq0.true));
+  child_and_sibling = (c.child_of-child.ensures, omega arith);
 }
 
 pub fill_leaf-requires : goal.fill_leaf-requires
 fill_leaf-requires c = record {
   line_to_fill = c.requires;
-  child_and_sibling = (omega (arith, c.child_of-child.ensures, c.if-child-eq0.true), c.sibling_of-sibling.ensures);
+  child_and_sibling = (omega arith, c.sibling_of-sibling.ensures);
 }
