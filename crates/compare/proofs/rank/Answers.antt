@@ -22,7 +22,7 @@ is_set-requires c =
 pub returns-then-not-is_set : goal.returns-then-not-is_set
 returns-then-not-is_set c =
     let passes : passed ≡ file_verdict c.args.file.now = told c.in-Passed.is c.file_ruling-ruling.ensures in
-    ranking_refused_first _ _ _ passes ((sym c.is_set.ensures ∙ c.if-not-is_set.true))
+    ranking_refused_first _ _ _ passes (sym c.is_set.ensures ∙ c.if-not-is_set.true)
 
 pub is_set-requires-in-Passed : goal.is_set-requires-in-Passed
 is_set-requires-in-Passed c =
@@ -33,7 +33,7 @@ pub returns-then-not-is_set-2 : goal.returns-then-not-is_set-2
 returns-then-not-is_set-2 c =
     let passes : passed ≡ file_verdict c.args.file.now = told c.in-Passed.is c.file_ruling-ruling.ensures in
     let first_set : is_set (tree_of c.args.file.now) c.args.first.now ≡ true = (sym c.is_set.ensures ∙ c.if-not-is_set.false) in
-    ranking_refused_second _ _ _ passes first_set ((sym c.is_set-in-Passed.ensures ∙ c.if-not-is_set-2.true))
+    ranking_refused_second _ _ _ passes first_set (sym c.is_set-in-Passed.ensures ∙ c.if-not-is_set-2.true)
 
 pub ranks_before-requires : goal.ranks_before-requires
 ranks_before-requires c =

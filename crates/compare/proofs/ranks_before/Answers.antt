@@ -38,4 +38,4 @@ visited_before-requires c = record {
 }
 
 pub returns : goal.returns
-returns c = c.visited_before.ensures ∙ sym (rank_by_visits _ _ _ _ (omega (arith, c.total_of-mine.ensures, c.total_of-theirs.ensures, c.if-mine-theirs.false, c.if-theirs-mine.false)) (omega (arith, c.if-first-second.false, c.if-second-first.false)))
+returns c = c.visited_before.ensures ∙ sym (rank_by_visits _ _ _ _ (omega (arith, c.total_of-mine.ensures, c.total_of-theirs.ensures, c.if-mine-theirs.false, c.if-theirs-mine.false)) (omega arith))

@@ -9,14 +9,14 @@ pub buffers_long-requires : goal.buffers_long-requires
 buffers_long-requires c = (lent_sizes _ _ (ap answer_of (sym c.in-Accepted.is) ∙ c.check-checked.ensures)).budget
 
 pub returns-then-not-buffers_long : goal.returns-then-not-buffers_long
-returns-then-not-buffers_long c = greedy_short _ _ (ap answer_of (sym c.in-Accepted.is) ∙ c.check-checked.ensures) ((sym c.buffers_long.ensures ∙ c.if-not-buffers_long.true))
+returns-then-not-buffers_long c = greedy_short _ _ (ap answer_of (sym c.in-Accepted.is) ∙ c.check-checked.ensures) (sym c.buffers_long.ensures ∙ c.if-not-buffers_long.true)
 
 pub run-requires : goal.run-requires
-run-requires c = greedy_room_lem _ _ (ap answer_of (sym c.in-Accepted.is) ∙ c.check-checked.ensures) ((sym c.buffers_long.ensures ∙ c.if-not-buffers_long.false))
+run-requires c = greedy_room_lem _ _ (ap answer_of (sym c.in-Accepted.is) ∙ c.check-checked.ensures) (sym c.buffers_long.ensures ∙ c.if-not-buffers_long.false)
 
 pub returns-else-not-buffers_long : goal.returns-else-not-buffers_long
 returns-else-not-buffers_long c = let told = ap answer_of (sym c.in-Accepted.is) ∙ c.check-checked.ensures in
-    greedy_written _ _ told ((sym c.buffers_long.ensures ∙ c.if-not-buffers_long.false)) c.run.ensures
+    greedy_written _ _ told (sym c.buffers_long.ensures ∙ c.if-not-buffers_long.false) c.run.ensures
 
 pub returns-in-Refused : goal.returns-in-Refused
 returns-in-Refused c = greedy_refused_lem _ _ (ap answer_of (sym c.in-Refused.is) ∙ c.check-checked.ensures)

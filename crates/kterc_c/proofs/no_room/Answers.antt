@@ -21,12 +21,12 @@ is_set-requires c =
 pub returns-then-not-is_set : goal.returns-then-not-is_set
 returns-then-not-is_set c =
     let passes : passed ≡ file_verdict c.args.file.now = told c.in-Passed.is c.file_ruling-ruling.ensures in
-    set_asked_lem _ _ _ passes ((sym c.is_set.ensures ∙ c.if-not-is_set.true))
+    set_asked_lem _ _ _ passes (sym c.is_set.ensures ∙ c.if-not-is_set.true)
 
 pub returns-else-not-is_set : goal.returns-else-not-is_set
 returns-else-not-is_set c =
     let passes : passed ≡ file_verdict c.args.file.now = told c.in-Passed.is c.file_ruling-ruling.ensures in
-    set_asked_lem _ _ _ passes ((sym c.is_set.ensures ∙ c.if-not-is_set.false))
+    set_asked_lem _ _ _ passes (sym c.is_set.ensures ∙ c.if-not-is_set.false)
 
 pub returns-in-Broken : goal.returns-in-Broken
 returns-in-Broken c = file_refused _ _ _ (told c.in-Broken.is c.file_ruling-ruling.ensures)

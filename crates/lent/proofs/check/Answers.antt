@@ -8,10 +8,10 @@ pub enough-requires : goal.enough-requires
 enough-requires c = answered_sizes _ (ap answer_of (sym c.in-Accepted.is) ∙ c.check-checked.ensures)
 
 pub returns-then-not-enough : goal.returns-then-not-enough
-returns-then-not-enough c = scratch_short_lem _ (ap answer_of (sym c.in-Accepted.is) ∙ c.check-checked.ensures) _ ((sym c.enough.ensures ∙ c.if-not-enough.true))
+returns-then-not-enough c = scratch_short_lem _ (ap answer_of (sym c.in-Accepted.is) ∙ c.check-checked.ensures) _ (sym c.enough.ensures ∙ c.if-not-enough.true)
 
 pub returns-else-not-enough : goal.returns-else-not-enough
-returns-else-not-enough c = scratch_held _ (ap answer_of (sym c.in-Accepted.is) ∙ c.check-checked.ensures) _ ((sym c.enough.ensures ∙ c.if-not-enough.false))
+returns-else-not-enough c = scratch_held _ (ap answer_of (sym c.in-Accepted.is) ∙ c.check-checked.ensures) _ (sym c.enough.ensures ∙ c.if-not-enough.false)
 
 pub returns-in-Refused : goal.returns-in-Refused
 returns-in-Refused c = scratch_unasked _ _ _ _ (ap answer_of (sym c.in-Refused.is) ∙ c.check-checked.ensures)

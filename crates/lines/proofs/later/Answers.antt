@@ -21,12 +21,12 @@ split-cost-requires c = record {
 
 pub returns-then-not-is_less : goal.returns-then-not-is_less
 unfolding line_later
-returns-then-not-is_less c = let no_less = ltb-false c.args.least.0 c.split-cost.result.0 ((sym c.is_less.ensures ∙ c.if-not-is_less.true)) in
+returns-then-not-is_less c = let no_less = ltb-false c.args.least.0 c.split-cost.result.0 (sym c.is_less.ensures ∙ c.if-not-is_less.true) in
     first_least_here _ _ c.loop-r.r c.loop-r.invariant (omega (arith, no_less, c.split-cost.ensures, least_is_split c.args.m c.requires.line_parts c.requires.least_value))
 
 pub loop-r-preserved : goal.loop-r-preserved
 loop-r-preserved c =
-    let larger : c.loop-r.r < (first_least (line_split c.args.cached.now c.args.uncached.now c.args.rest.now c.args.member.0 c.args.other.0 c.args.m) c.args.m) = let less = ltb-true c.args.least.0 c.split-cost.result.0 ((sym c.is_less.ensures ∙ c.if-not-is_less.false)) in
+    let larger : c.loop-r.r < (first_least (line_split c.args.cached.now c.args.uncached.now c.args.rest.now c.args.member.0 c.args.other.0 c.args.m) c.args.m) = let less = ltb-true c.args.least.0 c.split-cost.result.0 (sym c.is_less.ensures ∙ c.if-not-is_less.false) in
     first_least_after _ _ c.loop-r.r c.loop-r.invariant (omega (arith, less, c.split-cost.ensures, least_is_split c.args.m c.requires.line_parts c.requires.least_value)) in
     omega (arith, larger)
 

@@ -10,7 +10,7 @@ use Rattle.one_site.proofs.check.Goals as goal
 pub returns-then-not-node_holds : goal.returns-then-not-node_holds
 returns-then-not-node_holds c =
     let told : answered c.in-Accepted.tree ≡ answer (file_verdict c.args.file.now) (sizes_of c.args.file.now) = ap answer_of (sym c.in-Accepted.is) ∙ c.check-checked.ensures in
-    node_refused _ _ _ _ told ((sym c.node_holds.ensures ∙ c.if-not-node_holds.true))
+    node_refused _ _ _ _ told (sym c.node_holds.ensures ∙ c.if-not-node_holds.true)
 
 pub enough-requires : goal.enough-requires
 enough-requires c =
@@ -20,12 +20,12 @@ enough-requires c =
 pub returns-then-not-enough : goal.returns-then-not-enough
 returns-then-not-enough c =
     let told : answered c.in-Accepted.tree ≡ answer (file_verdict c.args.file.now) (sizes_of c.args.file.now) = ap answer_of (sym c.in-Accepted.is) ∙ c.check-checked.ensures in
-    scratch_refused _ _ _ _ told ((sym c.node_holds.ensures ∙ c.if-not-node_holds.false)) ((sym c.enough.ensures ∙ c.if-not-enough.true))
+    scratch_refused _ _ _ _ told (sym c.node_holds.ensures ∙ c.if-not-node_holds.false) (sym c.enough.ensures ∙ c.if-not-enough.true)
 
 pub returns-else-not-enough : goal.returns-else-not-enough
 returns-else-not-enough c =
     let told : answered c.in-Accepted.tree ≡ answer (file_verdict c.args.file.now) (sizes_of c.args.file.now) = ap answer_of (sym c.in-Accepted.is) ∙ c.check-checked.ensures in
-    site_accepted _ _ _ _ told ((sym c.node_holds.ensures ∙ c.if-not-node_holds.false)) ((sym c.enough.ensures ∙ c.if-not-enough.false))
+    site_accepted _ _ _ _ told (sym c.node_holds.ensures ∙ c.if-not-node_holds.false) (sym c.enough.ensures ∙ c.if-not-enough.false)
 
 pub returns-in-Refused : goal.returns-in-Refused
 returns-in-Refused c = site_unasked _ _ _ _ (ap answer_of (sym c.in-Refused.is) ∙ c.check-checked.ensures)

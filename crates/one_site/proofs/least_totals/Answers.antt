@@ -22,7 +22,7 @@ least_where-without-requires c =
 
 pub returns-then-not-has_set : goal.returns-then-not-has_set
 returns-then-not-has_set c = record {
-  result_value = ap answered (without_alone c.requires.asked_site c.least_where-without.ensures.least_where ((sym c.has_set.ensures ∙ c.if-not-has_set.true)));
+  result_value = ap answered (without_alone c.requires.asked_site c.least_where-without.ensures.least_where (sym c.has_set.ensures ∙ c.if-not-has_set.true));
   front_only = c.least_where-without.ensures.front_only;
 }
 
@@ -33,7 +33,7 @@ least_where-with-requires c =
       n_value = sizes_count c.requires.lent_room.of_file;
       table_room = room_kept room c.least_where-without.ensures.front_only.long;
       asked_site = c.requires.asked_site;
-      some_set = some_with c.requires.asked_site ((sym c.has_set.ensures ∙ c.if-not-has_set.false));
+      some_set = some_with c.requires.asked_site (sym c.has_set.ensures ∙ c.if-not-has_set.false);
     }
 
 pub returns : goal.returns

@@ -22,10 +22,10 @@ open_in-requires c = record {
 }
 
 pub returns-then-not-open_in : goal.returns-then-not-open_in
-returns-then-not-open_in c = sym (open_breaks _ _ _ c.loop-i.invariant.1 c.loop-i-test.true ((sym c.open_in.ensures ∙ c.if-not-open_in.true)))
+returns-then-not-open_in c = sym (open_breaks _ _ _ c.loop-i.invariant.1 c.loop-i-test.true (sym c.open_in.ensures ∙ c.if-not-open_in.true))
 
 pub loop-i-preserved : goal.loop-i-preserved
-loop-i-preserved c = (search rules, open_goes_on _ _ _ c.loop-i.invariant.1 c.loop-i-test.true ((sym c.open_in.ensures ∙ c.if-not-open_in.false)))
+loop-i-preserved c = (search rules, open_goes_on _ _ _ c.loop-i.invariant.1 c.loop-i-test.true (sym c.open_in.ensures ∙ c.if-not-open_in.false))
 
 pub returns : goal.returns
 returns c = sym (open_ends _ _ c.loop-i.i c.loop-i.invariant.1 (omega arith))

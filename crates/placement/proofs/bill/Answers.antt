@@ -22,7 +22,7 @@ is_set-requires c =
 pub returns-then-not-is_set : goal.returns-then-not-is_set
 returns-then-not-is_set c =
     let passes : passed ≡ file_verdict c.args.file.now = told c.in-Passed.is c.file_ruling-ruling.ensures in
-    bill_refused_set _ _ _ passes c.count_of-n.ensures ((sym c.is_set.ensures ∙ c.if-not-is_set.true))
+    bill_refused_set _ _ _ passes c.count_of-n.ensures (sym c.is_set.ensures ∙ c.if-not-is_set.true)
 
 pub returns-then-servings-n : goal.returns-then-servings-n
 returns-then-servings-n c =

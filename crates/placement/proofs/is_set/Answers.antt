@@ -6,7 +6,7 @@ use Rattle.model.proofs.Ascending.{not_ascending, set_by_open}
 use Rattle.placement.proofs.is_set.Goals as goal
 
 pub returns-then-not-ascending : goal.returns-then-not-ascending
-returns-then-not-ascending c = sym (not_ascending _ _ c.requires.nodes ((sym c.ascending.ensures ∙ c.if-not-ascending.true)))
+returns-then-not-ascending c = sym (not_ascending _ _ c.requires.nodes (sym c.ascending.ensures ∙ c.if-not-ascending.true))
 
 pub all_open-requires : goal.all_open-requires
 all_open-requires c =

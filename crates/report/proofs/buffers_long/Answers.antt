@@ -4,7 +4,7 @@ use mathlib.Core.Path.{◌∙◌}
 use Rattle.report.proofs.buffers_long.Goals as goal
 
 pub returns-then-not-buffers_long : goal.returns-then-not-buffers_long
-returns-then-not-buffers_long c = rw ((sym c.buffers_long.ensures ∙ c.if-not-buffers_long.true))
+returns-then-not-buffers_long c = rw (sym c.buffers_long.ensures ∙ c.if-not-buffers_long.true)
 
 pub returns : goal.returns
-returns c = rw ((sym c.buffers_long.ensures ∙ c.if-not-buffers_long.false)) c.buffers_long-2.ensures
+returns c = rw (sym c.buffers_long.ensures ∙ c.if-not-buffers_long.false) c.buffers_long-2.ensures

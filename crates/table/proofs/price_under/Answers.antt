@@ -6,7 +6,7 @@ use Rattle.table.proofs.price_under.Goals as goal
 
 pub returns-then-not-grants : goal.returns-then-not-grants
 unfolding cap
-returns-then-not-grants c = rw ((sym c.grants.ensures ∙ c.if-not-grants.true))
+returns-then-not-grants c = rw (sym c.grants.ensures ∙ c.if-not-grants.true)
 
 pub returns : goal.returns
-returns c = rw ((sym c.grants.ensures ∙ c.if-not-grants.false))
+returns c = rw (sym c.grants.ensures ∙ c.if-not-grants.false)
