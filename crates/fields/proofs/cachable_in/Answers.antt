@@ -13,7 +13,7 @@ use Rattle.fields.proofs.cachable_in.Goals as goal
 
 pub field_in-requires-then-size-eq-RATIO_RECORD : goal.field_in-requires-then-size-eq-RATIO_RECORD
 field_in-requires-then-size-eq-RATIO_RECORD c =
-    let ratios : has_ratios c.args.file.now ≡ true = ratio_told _ (sym c.requires.size_value ∙ c.if-size-eq-RATIO_RECORD.true) in
+    let ratios : has_ratios c.args.file.now ≡ true = ratio_told _ (omega arith) in
     record {
       size_value = c.requires.size_value;
       has_field = (has_hit _ ratios, c.requires.in_file);
@@ -24,12 +24,12 @@ overflow_mul-result c = omega (arith, mul-le-mul {n₁ = c.field_in.result} {m�
 
 pub returns-then-size-eq-RATIO_RECORD : goal.returns-then-size-eq-RATIO_RECORD
 returns-then-size-eq-RATIO_RECORD c =
-    let ratios : has_ratios c.args.file.now ≡ true = ratio_told _ (sym c.requires.size_value ∙ c.if-size-eq-RATIO_RECORD.true) in
+    let ratios : has_ratios c.args.file.now ≡ true = ratio_told _ (omega arith) in
     ap₂ ◌*◌ c.field_in.ensures.value c.field_in-then-size-eq-RATIO_RECORD.ensures.value ∙ sym (cachable_ratio _ _ ratios)
 
 pub field_in-requires-2 : goal.field_in-requires-2
 field_in-requires-2 c =
-    let no_ratios : has_ratios c.args.file.now ≡ false = bytes_told _ (λ e. c.if-size-eq-RATIO_RECORD.false (c.requires.size_value ∙ e)) in
+    let no_ratios : has_ratios c.args.file.now ≡ false = bytes_told _ (λ e. omega arith) in
     record {
       size_value = c.requires.size_value;
       has_field = (has_cachable _ no_ratios, c.requires.in_file);
@@ -37,5 +37,5 @@ field_in-requires-2 c =
 
 pub returns : goal.returns
 returns c =
-    let no_ratios : has_ratios c.args.file.now ≡ false = bytes_told _ (λ e. c.if-size-eq-RATIO_RECORD.false (c.requires.size_value ∙ e)) in
+    let no_ratios : has_ratios c.args.file.now ≡ false = bytes_told _ (λ e. omega arith) in
     ap (λ (x : ℕ). thousandths * x) c.field_in-2.ensures.value ∙ sym (cachable_bytes _ _ no_ratios)
