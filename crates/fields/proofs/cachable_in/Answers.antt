@@ -1,7 +1,7 @@
 -- `cachable_in`: the part of it that a cache can serve, where records have `size` bytes.
 use mathlib.Core.Path.{◌≡◌, sym, ap, ap₂, ◌∙◌}
 use mathlib.Core.Bool.{true, false}
-use Prim.Native.Nat.{ℕ, ◌*◌, ◌-◌, ◌^◌}
+use Prim.Native.Nat.{ℕ, ◌*◌, ◌-◌, ◌^◌, ◌<◌}
 use native.Mathlib.Nat.{mul-le-mul}
 use native.Mathlib.Omega.{arith}
 use Rattle.model.specs.File.{has_ratios}
@@ -19,8 +19,13 @@ field_in-requires-then-size-eq-RATIO_RECORD c =
       has_field = (has_hit _ ratios, c.requires.in_file);
     }
 
+-- the product of two numbers of 32 bits has at most 64
+product_fits : (a b : ℕ) → a < 2 ^ 32 → b < 2 ^ 32 → a * b < 2 ^ 64
+product_fits a b g h =
+    omega (arith, mul-le-mul {n₁ = a} {m₁ = b} {n₂ = 2 ^ 32 - 1} {m₂ = 2 ^ 32 - 1} (omega arith) (omega arith))
+
 pub overflow_mul-result : goal.overflow_mul-result
-overflow_mul-result c = omega (arith, mul-le-mul {n₁ = c.field_in.result} {m₁ = c.field_in-then-size-eq-RATIO_RECORD.result} {n₂ = 2 ^ 32 - 1} {m₂ = 2 ^ 32 - 1} (omega arith) (omega arith))
+overflow_mul-result c = record { fits = product_fits _ _ (omega arith) (omega arith) }
 
 pub returns-then-size-eq-RATIO_RECORD : goal.returns-then-size-eq-RATIO_RECORD
 returns-then-size-eq-RATIO_RECORD c =

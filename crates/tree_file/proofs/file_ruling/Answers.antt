@@ -1,7 +1,7 @@
 -- Rules 1 to 6 asked one after the other: what each test shows, and the verdict at each answer.
 use native.Mathlib.Omega.{arith}
 use mathlib.Core.Path.{◌≡◌, sym, ap, ◌∙◌}
-use mathlib.Core.Bool.{true}
+use mathlib.Core.Bool.{true, false}
 use lib.Dec.{leb, eqb}
 use lib.ListN.{length}
 use borrow.Author.Tests.{le-leb, lt-leb, eq-eqb, ne_eqb}
@@ -76,7 +76,8 @@ returns-then-file-record_at c =
     let few : leb (count_of c.args.file.now) most_nodes ≡ true = le-leb _ _ (omega arith) in
     let small_budget : leb (budget_of c.args.file.now) most_budget ≡ true = le-leb _ _ (omega arith) in
     let end : let s = c.args.file.now in c.record_at.result ≡ record_at s (count_of s) = c.record_at.ensures ∙ ap (record_at _) c.count_of-n.ensures in
-    simp (long, marks, first, newest, some, few, small_budget, ne_eqb _ _ (λ e. c.if-file-record_at.true (e ∙ sym end)))
+    let other : let s = c.args.file.now in eqb (length s) (record_at s (count_of s)) ≡ false = ne_eqb _ _ (λ e. omega arith) in
+    simp (long, marks, first, newest, some, few, small_budget, other)
 
 pub returns : goal.returns
 unfolding file_verdict
