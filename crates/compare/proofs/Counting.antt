@@ -6,8 +6,8 @@ use Prim.Native.Nat.{ℕ, ◌+◌, ◌≤◌, ◌<◌}
 use native.Mathlib.Numerals.{add-one}
 use native.Mathlib.Decide.{ℕ_discrete}
 use native.Mathlib.Omega.{arith}
-use lib.ListN.{length, get_or, set, take, replicate, get_or-replicate, length-replicate, length-set, length-take}
-use lib.Seq.{take-suc, take_all, get_or-set_same, get_or-set_other}
+use lib.ListN.{length, get_or, set, take, replicate, get_or-replicate, length-set, length-take}
+use lib.Seq.{take-suc, get_or-set_same, get_or-set_other}
 use Rattle.laws.specs.Lists.{how_many}
 use Rattle.laws.proofs.Counts.{bit_le, how_many_snoc, how_many_le}
 use Rattle.model.specs.File.{Tree, tree_of, demand_of, most_nodes}
@@ -60,10 +60,6 @@ module _ (t : Tree) where
         (omega (arith, rw (before_not_below t pre v 0 z) at (c.entry v z l)));
   }
 
-  -- ---- all members are counted
-  pub count_ends : (k counts : List ℕ) (j : ℕ) → length k ≤ j → Counted t (take j k) counts → Counted t k counts
-  count_ends k counts j h c = rw (take_all j k h) at c
-
 -- ---- the climb from member j, over a file
 
 module _ {file k before : List ℕ} (given : Countable file k before) {j : ℕ} (h : j < length k) where
@@ -114,11 +110,5 @@ pub still_countable : {file k before counts : List ℕ} → Countable file k bef
 still_countable given e = record { given = given.given; room = omega (arith, given.room) }
 
 -- before the first member: an entry 0 for each node that a file can have
-pub fresh_countable : {file k : List ℕ} {n : ℕ} → Billable file n k → Countable file k (replicate most_nodes 0)
-fresh_countable {k = k} given = record {
-  given = record { of_file = rw given.of_file.nodes at given.of_file; of_nodes = given.of_nodes };
-  room = rw (length-replicate {A = ℕ} most_nodes 0) given.of_file.sound.few;
-}
-
 pub fresh_counted : {file k : List ℕ} {n : ℕ} → Billable file n k → Counted (tree_of file) (take 0 k) (replicate most_nodes 0)
 fresh_counted {file} {k} given = count_begins (tree_of file) k most_nodes given.of_file.sound.few

@@ -1,23 +1,28 @@
--- Laws of the ranking as code asks it: totals, sizes, then a loop over nodes 1, 2, .. that returns at the first difference.
+-- Laws of the ranking as code asks it: the order of totals and sizes, then a loop over nodes 1, 2, .. that returns at the first difference.
 use mathlib.Core.Path.{◌≡◌, refl, sym, ap, ◌∙◌}
 use mathlib.Core.Bool.{Bool, true, false, not, beq}
 use mathlib.Core.List.{List}
 use Prim.Native.Nat.{ℕ, ◌+◌, ◌-◌, ◌≤◌, ◌<◌}
 use native.Mathlib.Omega.{arith}
+use native.Mathlib.Decide.{dec_lt}
+use lib.Dec.{ltb}
 use lib.ListN.{length, get_or}
-use mir.Val.{bool_byte}
+use Rattle.std.specs.Ordering.{nat_cmp, ordering_then}
+use Rattle.std.specs.declared.cmp.Ordering.{Ordering}
+use Rattle.std.specs.declared.cmp.Ordering.TheVariants.{Less, Equal, Greater}
+use Rattle.std.proofs.lemmas.Cmp.{ranked, by_ranked}
 use borrow.Author.Tests.{lt-ltb, le-ltb, eq-eqb, ne_eqb}
-use Rattle.laws.specs.Lists.{range, has, bit}
-use Rattle.laws.proofs.Bools.{cast_is_bit, differ, alike, by_test}
+use Rattle.laws.specs.Lists.{range, has}
+use Rattle.laws.proofs.Bools.{differ, alike, by_test}
 use Rattle.laws.proofs.Ranges.{range_first, range_none}
-use Rattle.laws.proofs.Counts.{bit_le}
-use Rattle.model.specs.File.{Tree, Demand, tree_of, demand_of, count_of, most_nodes}
+use Rattle.model.specs.File.{Tree, Demand, tree_of, demand_of, count_of}
 use Rattle.model.specs.Rules.{ascends}
 use Rattle.model.specs.Bill.{total}
 use Rattle.model.specs.Ties.{smaller_first, lacking_first, members, visits, ties_before, ranks_before}
 use Rattle.model.specs.Accepted.{Sound}
 use Rattle.model.proofs.Ascending.{set_ascends}
-use Rattle.placement.proofs.Members.{set_size, cursor_bound, cursor_begins, cursor_turns}
+use Rattle.placement.specs.Passes.{members_from}
+use Rattle.placement.proofs.Members.{all_left}
 use Rattle.compare.specs.Counting.{Comparable, VisitedTo}
 
 -- ---- the smaller number first, and the set that lacks the node
@@ -42,28 +47,33 @@ lacking_differ false false rest d = absurd (d refl)
 
 -- ---- totals and sizes
 
-module _ (t : Tree) (d : Demand) (k l : List ℕ) where
-  pub rank_by_less_total : total t d k < total t d l → ranks_before t d k l ≡ true
-  unfolding ranks_before
-  rank_by_less_total h = smaller_less _ _ _ h
+-- what an order says, and at equals the rest
+abbrev by_order : Ordering → Bool → Bool
+by_order Less rest = true
+by_order Equal rest = rest
+by_order Greater rest = false
 
-  pub rank_by_more_total : total t d l < total t d k → ranks_before t d k l ≡ false
-  unfolding ranks_before
-  rank_by_more_total h = smaller_more _ _ _ h
+by_order_then : (o p : Ordering) (rest : Bool) → by_order (ordering_then o p) rest ≡ by_order o (by_order p rest)
+by_order_then Less p rest = refl
+by_order_then Equal p rest = refl
+by_order_then Greater p rest = refl
 
-  module _ (e : total t d k ≡ total t d l) where
-    pub rank_by_fewer : length k < length l → ranks_before t d k l ≡ true
-    unfolding ranks_before ties_before
-    rank_by_fewer h = smaller_equal _ _ _ e ∙ smaller_less _ _ _ h
+smaller_by_order : (a b : ℕ) (rest : Bool) → smaller_first a b rest ≡ by_order (nat_cmp a b) rest
+smaller_by_order a b rest =
+    by_ranked (a < b) (a ≡ b) (b < a) (nat_cmp a b) (ranked a b (nat_cmp a b) refl)
+    (λ e h. smaller_less a b rest h ∙ rw e refl) (λ e h. smaller_equal a b rest h ∙ rw e refl) (λ e h. smaller_more a b rest h ∙ rw e refl)
 
-    pub rank_by_more : length l < length k → ranks_before t d k l ≡ false
-    unfolding ranks_before ties_before
-    rank_by_more h = smaller_equal _ _ _ e ∙ smaller_more _ _ _ h
-
-    -- the visit of the nodes from 1 on decides
-    pub rank_by_visits : length k ≡ length l → ranks_before t d k l ≡ visits t k l (range 1 (t.count - 1))
-    unfolding ranks_before ties_before
-    rank_by_visits h = smaller_equal _ _ _ e ∙ smaller_equal _ _ _ h
+-- the order of the totals, then of the sizes, and then the visit of the nodes from 1 on
+pub rank_by_order : (t : Tree) (d : Demand) (k l : List ℕ) {x y : ℕ} → x ≡ total t d k → y ≡ total t d l
+    → {o p q : Ordering} → p ≡ nat_cmp x y → q ≡ nat_cmp (length k) (length l) → o ≡ ordering_then p q
+    → ranks_before t d k l ≡ by_order o (visits t k l (range 1 (t.count - 1)))
+unfolding ranks_before ties_before
+rank_by_order t d k l e f by_totals by_sizes is =
+    let rest = visits t k l (range 1 (t.count - 1)) in
+    rw (is, by_totals, by_sizes, e, f)
+    (smaller_by_order (total t d k) (total t d l) (smaller_first (length k) (length l) rest)
+    ∙ ap (by_order (nat_cmp (total t d k) (total t d l))) (smaller_by_order (length k) (length l) rest)
+    ∙ sym (by_order_then (nat_cmp (total t d k) (total t d l)) (nat_cmp (length k) (length l)) rest))
 
 -- ---- the visit of node v
 
@@ -114,16 +124,16 @@ module _ {file k l counts others : List ℕ} (given : Comparable file k l counts
   pub in_tree_other : ascends 0 t.count l ≡ true
   in_tree_other = set_ascends t l given.countable_other.given.of_nodes
 
-  pub visit_begins : VisitedTo file k l 1 0 0
+  pub visit_begins : VisitedTo file k l 1 k l
   visit_begins = record {
     some = omega arith;
     in_file = sound.some;
-    counted = sym (cursor_begins n 0 1 k (omega arith) in_tree);
-    counted_other = sym (cursor_begins n 0 1 l (omega arith) in_tree_other);
+    still = sym (all_left n 0 1 k (omega arith) in_tree);
+    still_other = sym (all_left n 0 1 l (omega arith) in_tree_other);
     undecided = refl;
   }
 
-  module _ {v cursor other : ℕ} (so_far : VisitedTo file k l v cursor other) where
+  module _ {v : ℕ} {left other : List ℕ} (so_far : VisitedTo file k l v left other) where
     pub visit_ends : n ≤ v → false ≡ visits t k l (range 1 (n - 1))
     visit_ends h = sym (so_far.undecided ∙ visits_end t k l v n (omega (arith, so_far.in_file)))
 
@@ -134,31 +144,26 @@ module _ {file k l counts others : List ℕ} (given : Comparable file k l counts
       theirs : get_or others v 0 ≡ members t l v
       theirs = given.counted_other.entry v so_far.some more
 
-      pub visit_ahead : get_or others v 0 < get_or counts v 0 → true ≡ visits t k l (range 1 (n - 1))
-      visit_ahead h = sym (so_far.undecided ∙ visits_ahead t k l v n more (omega (arith, mine, theirs)))
+      -- the counts differ: more members at or below come first
+      pub visit_uneven : (get_or counts v 0 ≡ get_or others v 0 → ⊥) → ltb (get_or others v 0) (get_or counts v 0) ≡ visits t k l (range 1 (n - 1))
+      visit_uneven uneven = elim (dec_lt (get_or others v 0) (get_or counts v 0)) [
+        | yes h ↦ lt-ltb _ _ h ∙ sym (so_far.undecided ∙ visits_ahead t k l v n more (omega (arith, mine, theirs)))
+        | no h ↦ le-ltb (get_or others v 0) (get_or counts v 0) (omega arith) ∙ sym (so_far.undecided ∙ visits_behind t k l v n more (omega (arith, mine, theirs)))
+      ]
 
-      pub visit_behind : get_or counts v 0 < get_or others v 0 → false ≡ visits t k l (range 1 (n - 1))
-      visit_behind h = sym (so_far.undecided ∙ visits_behind t k l v n more (omega (arith, mine, theirs)))
-
-      pub visit_fits : (member : Bool) → (cursor + bool_byte member ≤ most_nodes) × (other + bool_byte member ≤ most_nodes)
-      visit_fits member =
-          let one : bool_byte member ≤ 1 = omega (arith, cast_is_bit member, bit_le member) in (
-            omega (arith, so_far.counted, cursor_bound k v, set_size n 0 k sound.some in_tree, sound.few),
-            omega (arith, so_far.counted_other, cursor_bound l v, set_size n 0 l sound.some in_tree_other, sound.few),
-          )
-
-      module _ (no_more : get_or counts v 0 ≤ get_or others v 0) (no_less : get_or others v 0 ≤ get_or counts v 0) {a b : Bool} (has_first : a ≡ has k v) (has-second : b ≡ has l v) where
+      module _ (even : get_or counts v 0 ≡ get_or others v 0) {a b : Bool} {left' other' : List ℕ}
+          (taken : (a ≡ has k v) × (left' ≡ members_from k (v + 1))) (other_taken : (b ≡ has l v) × (other' ≡ members_from l (v + 1))) where
         equal : members t l v ≡ members t k v
         equal = omega (arith, mine, theirs)
 
         pub visit_differs : not (beq a b) ≡ true → b ≡ visits t k l (range 1 (n - 1))
-        visit_differs d = has-second ∙ sym (so_far.undecided ∙ visits_differ t k l v n more equal (λ e. differ a b d (has_first ∙ e ∙ sym has-second)))
+        visit_differs d = other_taken.0 ∙ sym (so_far.undecided ∙ visits_differ t k l v n more equal (λ e. differ a b d (taken.0 ∙ e ∙ sym other_taken.0)))
 
-        pub visit_turns : not (beq a b) ≡ false → VisitedTo file k l (v + 1) (cursor + bool_byte a) (other + bool_byte b)
+        pub visit_turns : not (beq a b) ≡ false → VisitedTo file k l (v + 1) left' other'
         visit_turns e = record {
           some = omega arith;
           in_file = omega arith;
-          counted = omega (arith, so_far.counted, cast_is_bit a, ap bit has_first, cursor_turns n 0 v k in_tree);
-          counted_other = omega (arith, so_far.counted_other, cast_is_bit b, ap bit has-second, cursor_turns n 0 v l in_tree_other);
-          undecided = so_far.undecided ∙ visits_alike t k l v n more equal (sym has_first ∙ alike a b e ∙ has-second);
+          still = taken.1;
+          still_other = other_taken.1;
+          undecided = so_far.undecided ∙ visits_alike t k l v n more equal (sym taken.0 ∙ alike a b e ∙ other_taken.0);
         }

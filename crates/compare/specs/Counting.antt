@@ -4,7 +4,7 @@ use Rattle.laws.specs.Lists.{range, bit}
 use Rattle.model.specs.File.{Tree, tree_of, count_of}
 use Rattle.model.specs.Tree.{at_or_below}
 use Rattle.model.specs.Ties.{members, visits}
-use Rattle.placement.specs.Passes.{members_before, Billable}
+use Rattle.placement.specs.Passes.{members_from, Billable}
 
 module _ (t : Tree) (k counts : List ℕ) where
   -- at each site the number of members of K at or below it
@@ -33,15 +33,10 @@ pub record ClimbedTo (file k before counts : List ℕ) (j w : ℕ) : Type 0 wher
   pub kept : length counts ≡ length before
   pub climbing : Climbing (tree_of file) (take j k) counts (get_or k j 0) w
 
--- the members before j are counted
-pub record CountedTo (file k before counts : List ℕ) (j : ℕ) : Type 0 where
-  pub kept : length counts ≡ length before
-  pub counted : Counted (tree_of file) (take j k) counts
-
--- the nodes before v are visited: nothing has decided, and each cursor stands at v
-pub record VisitedTo (file k l : List ℕ) (v cursor other : ℕ) : Type 0 where
+-- the nodes before v are visited: nothing has decided, and of each set the members from v on are left
+pub record VisitedTo (file k l : List ℕ) (v : ℕ) (left other : List ℕ) : Type 0 where
   pub some : 1 ≤ v
   pub in_file : v ≤ count_of file
-  pub counted : cursor ≡ members_before k v
-  pub counted_other : other ≡ members_before l v
+  pub still : left ≡ members_from k v
+  pub still_other : other ≡ members_from l v
   pub undecided : visits (tree_of file) k l (range 1 (count_of file - 1)) ≡ visits (tree_of file) k l (range v (count_of file - v))

@@ -1,10 +1,13 @@
-// The sizes of the tree file, its versions, the table of a record's fields, and the readers that go by it.
+// The sizes of the tree file, its versions, the table of a record's fields, and a file with the readers that go by it.
 #![tactic(auto)]
 
-ghost use Rattle.std.specs.Prelude.{◌≡◌, ◌+◌, ◌*◌, ◌≤◌, ◌<◌, ◌^◌, leb, length};
+ghost use Rattle.std.specs.Prelude.{◌≡◌, ◌+◌, ◌*◌, ◌≤◌, ◌<◌, ◌^◌, List, ℕ, leb, length};
 ghost use Rattle.model.specs.File.{number, most_nodes, header_length, version_of, count_of, budget_of, has_ratios, has_open_bytes, record_length, record_at, field_of, tree_of, demand_of};
 ghost use Rattle.model.specs.Bill.{whole, cachable};
-ghost use Rattle.fields.specs.Table.{row_of, field_at, HasField, InFile};
+ghost use Rattle.fields.specs.Table.{row_of, row_number, field_at, HasField, InFile};
+
+use std::marker::Model;
+use units::{Distance, Flow};
 
 // What an accepted file says of its tree: n, k and h. The associated constants are the tree file's versions, sizes and places.
 #[derive(Clone, Copy)]
@@ -12,6 +15,17 @@ pub struct Tree {
     pub nodes: usize,
     pub budget: usize,
     pub height: usize,
+}
+
+// Which field of a record, and so which row of the table.
+#[derive(Clone, Copy, PartialEq, Eq, Debug)]
+pub enum FieldName {
+    Parent,
+    Length,
+    Flow,
+    Hit,
+    Cachable,
+    Open,
 }
 
 // A row of the table: where a field stands in its record, how many bytes it has, and its largest value.
@@ -35,6 +49,7 @@ impl Tree {
 
     pub const HIT: u64 = 1_000;
 
+    // A version stays a number, since a file is read before rule 3 asks it:
     // version 1 has a hit ratio for each client, version 2 cachable bytes, version 3 also a last byte in each record
     pub const FIRST_VERSION: u64 = 1;
 
@@ -56,19 +71,7 @@ impl Tree {
 
     const OPEN_RECORD: usize = 13;
 
-    // which row of the table is which field
-    pub const PARENT_FIELD: usize = 0;
-
-    pub const LENGTH_FIELD: usize = 1;
-
-    pub const FLOW_FIELD: usize = 2;
-
-    pub const HIT_FIELD: usize = 3;
-
-    pub const CACHABLE_FIELD: usize = 4;
-
-    pub const OPEN_FIELD: usize = 5;
-
+    // the rows in the order of `FieldName`
     pub const FIELDS: [Field; 6] = [
         Field {
             offset: 0,
@@ -103,19 +106,20 @@ impl Tree {
     ];
 }
 
-// Row `f` of the table.
-pub fn row_of(f: usize) -> Field
-    requires { f < 6 }
-    ensures { row_of result ≡ field_at f }
-{
-    Tree::FIELDS[f]
+impl FieldName {
+    // Which row it is.
+    fn row(self) -> usize
+        ensures { result ≡ row_number self }
+    {
+        self as usize
+    }
 }
 
-fn wide(byte: u8) -> u64
-    ensures value { result ≡ byte }
-    ensures upper_bound { result < 256 }
+// The row of field `f` in the table.
+pub fn row_of(f: FieldName) -> Field
+    ensures { row_of result ≡ field_at f }
 {
-    byte as u64
+    Tree::FIELDS[f.row()]
 }
 
 // The number in `width` bytes from `at` on, most significant byte first.
@@ -125,195 +129,172 @@ pub fn number_at(file: &[u8], at: usize, width: usize) -> u64
     ensures upper_bound { result < 256 ^ width }
 {
     let mut value: u64 = 0;
-    let mut i = 0;
-    while i < width {
-        value = value * 256 + wide(file[at + i]);
-        i += 1;
+    for byte in &file[at..at + width] {
+        value = value * 256 + u64::from(*byte);
     }
     value
 }
 
-// ---- the header
-
-pub fn version_of(file: &[u8]) -> u64
-    requires { header_length ≤ length file.now }
-    ensures { result ≡ version_of file.now }
+// How many bytes a record of a version has.
+fn record_length(version: u64) -> usize
+    ensures { (file : List ℕ) → version_of file ≡ version → result ≡ record_length file }
 {
-    number_at(file, Tree::VERSION_AT, 2)
-}
-
-// n, the number of nodes.
-pub fn count_of(file: &[u8]) -> usize
-    requires { header_length ≤ length file.now }
-    ensures { result ≡ count_of file.now }
-{
-    number_at(file, Tree::NODES_AT, 2) as usize
-}
-
-// k, the budget.
-pub fn budget_of(file: &[u8]) -> usize
-    requires { header_length ≤ length file.now }
-    ensures { result ≡ budget_of file.now }
-{
-    number_at(file, Tree::BUDGET_AT, 2) as usize
-}
-
-// ---- records
-
-// Is the file of version 1?
-pub fn has_ratios(file: &[u8]) -> bool
-    requires { header_length ≤ length file.now }
-    ensures { result ≡ has_ratios file.now }
-{
-    version_of(file) == Tree::FIRST_VERSION
-}
-
-// Is it of version 3?
-pub fn has_open_bytes(file: &[u8]) -> bool
-    requires { header_length ≤ length file.now }
-    ensures { result ≡ has_open_bytes file.now }
-{
-    version_of(file) == Tree::THIRD_VERSION
-}
-
-// How many bytes a record has.
-pub fn record_length(file: &[u8]) -> usize
-    requires { header_length ≤ length file.now }
-    ensures { result ≡ record_length file.now }
-{
-    if has_ratios(file) {
+    if version == Tree::FIRST_VERSION {
         return Tree::RATIO_RECORD;
     }
-    if has_open_bytes(file) {
+    if version == Tree::THIRD_VERSION {
         return Tree::OPEN_RECORD;
     }
     Tree::BYTES_RECORD
 }
 
-// Where the record of node `v` begins.
-pub fn record_at(file: &[u8], v: usize) -> usize
-    requires header_length_in_bounds { header_length ≤ length file.now }
-    requires v_le_most_nodes { v ≤ most_nodes }
-    ensures { result ≡ record_at file.now v }
-{
-    Tree::HEADER + record_length(file) * v
+// A file with a whole header, and how many bytes each of its records has, which is worked out once. Contracts see its bytes.
+#[derive(Drop)]
+pub struct TreeFile<'a> {
+    bytes: &'a [u8],
+    size: usize,
 }
 
-// ---- the fields of a file whose records are known to have `size` bytes: a loop asks for their length once, before it
+impl<'a> Model for TreeFile<'a> {
+    ghost use Rattle.std.specs.Prelude.{List, ℕ, ◌≡◌, ◌≤◌, length};
+    ghost use Rattle.model.specs.File.{header_length, record_length};
 
-// Field `f` of the record of node `v`.
-fn field_in(file: &[u8], size: usize, f: usize, v: usize) -> u64
-    requires size_value { size ≡ record_length file.now }
-    requires has_field { HasField file.now f × InFile file.now v }
-    ensures value { result ≡ field_of file.now (field_at f) v }
-    ensures upper_bound { result < 2 ^ 32 }
-{
-    let row = row_of(f);
-    let at = Tree::HEADER + size * v + row.offset;
-    number_at(file, at, row.width)
+    ghost Value = { List ℕ };
+
+    ghost view = { λ f. f.bytes.now };
+
+    ghost invariant = { λ f. (header_length ≤ length f.bytes.now) × (f.size ≡ record_length f.bytes.now) };
 }
 
-pub fn parent_in(file: &[u8], size: usize, v: usize) -> usize
-    requires size_value { size ≡ record_length file.now }
-    requires in_file { InFile file.now v }
-    ensures { result ≡ (tree_of file.now).parent v }
-{
-    field_in(file, size, Tree::PARENT_FIELD, v) as usize
-}
-
-// The length of the link to the parent.
-pub fn length_in(file: &[u8], size: usize, v: usize) -> units::Distance
-    requires size_value { size ≡ record_length file.now }
-    requires in_file { InFile file.now v }
-    ensures { result.0 ≡ (tree_of file.now).link_length v }
-{
-    units::Distance(field_in(file, size, Tree::LENGTH_FIELD, v))
-}
-
-// All that the client at v asks for.
-pub fn flow_in(file: &[u8], size: usize, v: usize) -> units::Flow
-    requires size_value { size ≡ record_length file.now }
-    requires in_file { InFile file.now v }
-    ensures { result.0 ≡ whole (demand_of file.now) v }
-{
-    units::Flow(field_in(file, size, Tree::FLOW_FIELD, v) * units::Flow::WHOLE)
-}
-
-// The part of it that a cache can serve: only version 1 has records of ten bytes.
-pub fn cachable_in(file: &[u8], size: usize, v: usize) -> units::Flow
-    requires size_value { size ≡ record_length file.now }
-    requires in_file { InFile file.now v }
-    ensures { result.0 ≡ cachable (demand_of file.now) v }
-{
-    if size == Tree::RATIO_RECORD {
-        return units::Flow(
-            field_in(file, size, Tree::FLOW_FIELD, v) * field_in(file, size, Tree::HIT_FIELD, v),
-        );
+impl<'a> TreeFile<'a> {
+    pub fn of(bytes: &'a [u8]) -> TreeFile<'a>
+        requires { header_length ≤ length bytes.now }
+        ensures { result ≡ bytes.entry.now }
+    {
+        let version = number_at(bytes, Tree::VERSION_AT, 2);
+        TreeFile {
+            bytes,
+            size: record_length(version),
+        }
     }
-    units::Flow(units::Flow::WHOLE * field_in(file, size, Tree::CACHABLE_FIELD, v))
-}
 
-// May a cache stand at v? Only version 3 has records of thirteen bytes, and the others count as open throughout.
-pub fn open_in(file: &[u8], size: usize, v: usize) -> bool
-    requires size_value { size ≡ record_length file.now }
-    requires in_file { InFile file.now v }
-    ensures { result ≡ (tree_of file.now).is_open v }
-{
-    if size == Tree::OPEN_RECORD {
-        return field_in(file, size, Tree::OPEN_FIELD, v) == 1;
+    // ---- the header
+
+    pub fn version(&self) -> u64
+        ensures { result ≡ version_of self.now }
+    {
+        number_at(self.bytes, Tree::VERSION_AT, 2)
     }
-    true
-}
 
-// ---- the same of any file
+    // n, the number of nodes.
+    pub fn count(&self) -> usize
+        ensures { result ≡ count_of self.now }
+    {
+        number_at(self.bytes, Tree::NODES_AT, 2) as usize
+    }
 
-// Field `f` of the record of node `v`.
-pub fn field_of(file: &[u8], f: usize, v: usize) -> u64
-    requires has_field { HasField file.now f }
-    requires in_file { InFile file.now v }
-    ensures value { result ≡ field_of file.now (field_at f) v }
-    ensures upper_bound { result < 2 ^ 32 }
-{
-    field_in(file, record_length(file), f, v)
-}
+    // k, the budget.
+    pub fn budget(&self) -> usize
+        ensures { result ≡ budget_of self.now }
+    {
+        number_at(self.bytes, Tree::BUDGET_AT, 2) as usize
+    }
 
-// Is field `f` of the record of node `v` at most its largest value?
-pub fn within(file: &[u8], f: usize, v: usize) -> bool
-    requires has_field { HasField file.now f }
-    requires in_file { InFile file.now v }
-    ensures { result ≡ leb (field_of file.now (field_at f) v) (field_at f).most }
-{
-    let row = row_of(f);
-    field_of(file, f, v) <= row.most
-}
+    // Is the file of version 1?
+    pub fn has_ratios(&self) -> bool
+        ensures { result ≡ has_ratios self.now }
+    {
+        self.version() == Tree::FIRST_VERSION
+    }
 
-pub fn parent_of(file: &[u8], v: usize) -> usize
-    requires { InFile file.now v }
-    ensures { result ≡ (tree_of file.now).parent v }
-{
-    parent_in(file, record_length(file), v)
-}
+    // Is it of version 3?
+    pub fn has_open_bytes(&self) -> bool
+        ensures { result ≡ has_open_bytes self.now }
+    {
+        self.version() == Tree::THIRD_VERSION
+    }
 
-// The length of the link to the parent.
-pub fn length_of(file: &[u8], v: usize) -> units::Distance
-    requires { InFile file.now v }
-    ensures { result.0 ≡ (tree_of file.now).link_length v }
-{
-    length_in(file, record_length(file), v)
-}
+    // ---- records
 
-// All that the client at v asks for.
-pub fn flow_of(file: &[u8], v: usize) -> units::Flow
-    requires { InFile file.now v }
-    ensures { result.0 ≡ whole (demand_of file.now) v }
-{
-    flow_in(file, record_length(file), v)
-}
+    // How many bytes a record has.
+    pub fn record_length(&self) -> usize
+        ensures { result ≡ record_length self.now }
+    {
+        self.size
+    }
 
-// The part of it that a cache can serve.
-pub fn cachable_of(file: &[u8], v: usize) -> units::Flow
-    requires { InFile file.now v }
-    ensures { result.0 ≡ cachable (demand_of file.now) v }
-{
-    cachable_in(file, record_length(file), v)
+    // Where the record of node `v` begins.
+    pub fn record_at(&self, v: usize) -> usize
+        requires { v ≤ most_nodes }
+        ensures { result ≡ record_at self.now v }
+    {
+        Tree::HEADER + self.size * v
+    }
+
+    // Field `f` of the record of node `v`.
+    pub fn field(&self, f: FieldName, v: usize) -> u64
+        requires has_field { HasField self.now f }
+        requires in_file { InFile self.now v }
+        ensures value { result ≡ field_of self.now (field_at f) v }
+        ensures upper_bound { result < 2 ^ 32 }
+    {
+        let row = row_of(f);
+        let at = Tree::HEADER + self.size * v + row.offset;
+        number_at(self.bytes, at, row.width)
+    }
+
+    // Is field `f` of the record of node `v` at most its largest value?
+    pub fn is_within(&self, f: FieldName, v: usize) -> bool
+        requires has_field { HasField self.now f }
+        requires in_file { InFile self.now v }
+        ensures { result ≡ leb (field_of self.now (field_at f) v) (field_at f).most }
+    {
+        let row = row_of(f);
+        self.field(f, v) <= row.most
+    }
+
+    pub fn parent(&self, v: usize) -> usize
+        requires { InFile self.now v }
+        ensures { result ≡ (tree_of self.now).parent v }
+    {
+        self.field(FieldName::Parent, v) as usize
+    }
+
+    // The length of the link to the parent.
+    pub fn link_length(&self, v: usize) -> Distance
+        requires { InFile self.now v }
+        ensures { result.0 ≡ (tree_of self.now).link_length v }
+    {
+        Distance(self.field(FieldName::Length, v))
+    }
+
+    // All that the client at v asks for.
+    pub fn flow(&self, v: usize) -> Flow
+        requires { InFile self.now v }
+        ensures { result.0 ≡ whole (demand_of self.now) v }
+    {
+        Flow(self.field(FieldName::Flow, v) * Flow::WHOLE)
+    }
+
+    // The part of it that a cache can serve: only version 1 has records of ten bytes.
+    pub fn cachable(&self, v: usize) -> Flow
+        requires { InFile self.now v }
+        ensures { result.0 ≡ cachable (demand_of self.now) v }
+    {
+        if self.size == Tree::RATIO_RECORD {
+            return Flow(self.field(FieldName::Flow, v) * self.field(FieldName::Hit, v));
+        }
+        Flow(Flow::WHOLE * self.field(FieldName::Cachable, v))
+    }
+
+    // May a cache stand at v? Only version 3 has records of thirteen bytes, and the others count as open throughout.
+    pub fn is_open(&self, v: usize) -> bool
+        requires { InFile self.now v }
+        ensures { result ≡ (tree_of self.now).is_open v }
+    {
+        if self.size == Tree::OPEN_RECORD {
+            return self.field(FieldName::Open, v) == 1;
+        }
+        true
+    }
 }

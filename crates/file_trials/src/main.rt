@@ -5,79 +5,53 @@
 // `NAME record NODE FILE`: `NAME record BYTES`, or `NAME record none` for an empty one.
 #![tactic(auto)]
 
+use fields::Tree;
 use std::io;
-use std::io::{BufWriter, Write};
-use tree_file::Checked;
+use std::io::Write;
+use tree_file::Refusal;
+use trial_text::Case;
 
-fn print_accepted<W: Write>(out: &mut W, tree: fields::Tree) -> io::Result<()> {
-    out.write_all(b" accepted")?;
-    trial_text::print_number(out, tree.nodes as u64)?;
-    trial_text::print_number(out, tree.budget as u64)?;
-    trial_text::print_number(out, tree.height as u64)
+fn print_accepted<W: Write>(out: &mut W, tree: Tree) -> io::Result<()> {
+    write!(
+        out,
+        " accepted {} {} {}",
+        tree.nodes, tree.budget, tree.height
+    )
 }
 
-fn answer_check<W: Write>(out: &mut W, file: &[u8]) -> io::Result<()> {
-    let checked = tree_file::check(file);
+fn print_checked<W: Write>(out: &mut W, checked: Result<Tree, Refusal>) -> io::Result<()> {
     match checked {
-        Checked::Accepted(tree) => {
-            print_accepted(out, tree)?;
-        }
-        Checked::Refused(rule, record) => {
-            trial_text::print_refused(out, rule, record)?;
-        }
+        Ok(tree) => print_accepted(out, tree),
+        Err(refusal) => trial_text::print_refusal(out, refusal),
     }
-    out.write_all(b" host")?;
-    trial_text::print_number(out, tree_file::kterc_check(file) as u64)
 }
 
-fn answer_record<W: Write>(out: &mut W, file: &[u8], v: u64) -> io::Result<()> {
+fn check_case<W: Write>(out: &mut W, case: Case<'_>) -> io::Result<()> {
+    let file = case.file(2)?;
+    print_checked(out, tree_file::check(&file))?;
+    write!(out, " host {}", tree_file::kterc_check(&file))
+}
+
+fn record_case<W: Write>(out: &mut W, case: Case<'_>) -> io::Result<()> {
     out.write_all(b" record")?;
-    let record = tree_file::record_of(file, v as usize);
-    if record.len() == 0 {
-        out.write_all(b" none")?;
-        return Ok(());
+    let file = case.file(3)?;
+    let record = tree_file::record_of(&file, case.number(2) as usize);
+    if record.is_empty() {
+        return out.write_all(b" none");
     }
     trial_text::print_bytes(out, record)
 }
 
-fn check_case<W: Write>(out: &mut W, line: &[u8]) -> io::Result<()> {
-    let mut space = trial_text::file_room();
-    let n = trial_text::file_of(line, 2, &mut space);
-    answer_check(out, &space[0..n])
-}
-
-fn record_case<W: Write>(out: &mut W, line: &[u8]) -> io::Result<()> {
-    let mut space = trial_text::file_room();
-    let n = trial_text::file_of(line, 3, &mut space);
-    let v = trial_text::number(trial_text::word(line, 2));
-    answer_record(out, &space[0..n], v)
-}
-
-fn answer_line<W: Write>(out: &mut W, line: &[u8]) -> io::Result<()> {
-    trial_text::print_name(out, line)?;
-    let question = trial_text::word(line, 1);
-    if question == b"check".as_slice() {
-        check_case(out, line)?;
-    }
-    if question == b"record".as_slice() {
-        record_case(out, line)?;
+fn answer<W: Write>(out: &mut W, case: Case<'_>) -> io::Result<()> {
+    trial_text::print_name(out, case)?;
+    match case.word(1) {
+        b"check" => check_case(out, case)?,
+        b"record" => record_case(out, case)?,
+        _ => {}
     }
     trial_text::end_line(out)
 }
 
-fn answer_lines<W: Write>(out: &mut W, text: &[u8]) -> io::Result<()> {
-    let mut at = 0;
-    while at < text.len() {
-        answer_line(out, trial_text::up_to(text, at, b'\n'))?;
-        at = trial_text::past(text, at, b'\n');
-    }
-    Ok(())
-}
-
 fn main(rt: HostRuntime) -> io::Result<()> {
-    let mut text = trial_text::text_room();
-    let n = first_bytes::read_into(&mut rt.stdin(), &mut text)?;
-    let mut out = BufWriter::new(rt.alloc(), io::writer(&rt))?;
-    answer_lines(&mut out, &text[..n])?;
-    out.flush()
+    trial_text::answer_cases(&rt, answer)
 }

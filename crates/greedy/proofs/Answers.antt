@@ -1,6 +1,6 @@
 -- The greedy call, answer by answer: a refusal writes nothing, and what is written is the greedy rule's.
-use mathlib.Core.Path.{◌≡◌, refl, ap}
-use mathlib.Core.Bool.{Bool, true, false, ◌&&◌}
+use mathlib.Core.Path.{◌≡◌, refl, sym, ap, ◌∙◌}
+use mathlib.Core.Bool.{Bool, true, ◌&&◌}
 use mathlib.Core.List.{List}
 use Prim.Native.Nat.{ℕ, suc, ◌*◌, ◌≤◌}
 use native.Mathlib.Numerals.{add-one}
@@ -11,8 +11,9 @@ use borrow.Author.Tests.{leb-true}
 use Rattle.laws.proofs.Bools.{both}
 use Rattle.laws.proofs.Fronts.{front_only_past}
 use Rattle.model.specs.File.{count_of}
-use Rattle.model.specs.Rules.{passed, broken, scratch_words}
+use Rattle.model.specs.Rules.{Verdict, passed, broken, ask, scratch_words}
 use Rattle.model.specs.Calls.{answered, refused, answer, GreedyMemory, greedy_buffers_long, greedy_verdict, GreedyCall}
+use Rattle.model.proofs.Verdicts.{ask_passed}
 use Rattle.fields.specs.declared.Tree as code
 use Rattle.tree_file.specs.Checks.{sizes_of}
 use Rattle.lent.specs.Lent.{lent_verdict}
@@ -54,12 +55,19 @@ module _ (file : List ℕ) (memory : GreedyMemory) where
     abbrev both_long : Bool
     both_long = leb (suc sizes.budget) (length memory.totals) && leb sizes.budget (length memory.nodes)
 
-    long_is : {b : Bool} → both_long ≡ b → greedy_buffers_long file memory.totals memory.nodes ≡ b
-    long_is h = rw sizes_are at h
+    long_is : greedy_buffers_long file memory.totals memory.nodes ≡ both_long
+    long_is = rw sizes_are refl
 
-    pub greedy_short : both_long ≡ false → GreedyCall file memory (broken 14 0) memory
+    -- it decides
+    decides : {v : Verdict} → v ≡ ask 14 0 both_long → v ≡ greedy_verdict file memory
     unfolding greedy_verdict
-    greedy_short h = refused_whole (buffers_decide file memory.scratch _ e (long_is h))
+    decides h = h ∙ buffers_decide file memory.scratch _ e long_is
+
+    pub greedy_short : {q i : ℕ} → broken q i ≡ ask 14 0 both_long → GreedyCall file memory (broken q i) memory
+    greedy_short h = refused_whole (decides h)
+
+    pub long_asked : passed ≡ ask 14 0 both_long → both_long ≡ true
+    long_asked h = ask_passed 14 0 both_long (sym h)
 
     module _ (h : both_long ≡ true) where
       pub greedy_room_lem : GreedyRoom file sizes.nodes sizes.budget memory.scratch memory.totals memory.nodes
@@ -81,10 +89,9 @@ module _ (file : List ℕ) (memory : GreedyMemory) where
       pub greedy_written : {memory' : GreedyMemory}
           → GreedyWritten file sizes.nodes memory.scratch memory.totals memory.nodes memory'.scratch memory'.totals memory'.nodes
           → GreedyCall file memory passed memory'
-      unfolding greedy_verdict
       greedy_written done =
           record {
-            verdict = buffers_decide file memory.scratch _ e (long_is h);
+            verdict = decides (sym (ap (ask 14 0) h));
             scratch_after =
                 (done.front.long, front_only_past (node_words * sizes.nodes) (scratch_words file) (rw sizes_are (nodes_fit file)) done.front);
             totals_after = done.totals_after;

@@ -1,7 +1,7 @@
 -- The passes over the nodes: the flow that reaches each node from the last up, and serving distances from a site on.
 use mathlib.Core.Path.{◌≡◌, sym, ◌∙◌}
 use mathlib.Core.List.{List}
-use Prim.Native.Nat.{ℕ, zero, suc, ◌+◌, ◌-◌, ◌≤◌, ◌<◌, ◌^◌}
+use Prim.Native.Nat.{ℕ, zero, suc, ◌+◌, ◌≤◌, ◌<◌, ◌^◌}
 use native.Mathlib.Numerals.{add-one}
 use native.Mathlib.Omega.{arith}
 use lib.ListN.{set}
@@ -9,7 +9,7 @@ use Rattle.model.specs.File.{Tree, Demand, tree_of, demand_of}
 use Rattle.model.specs.Bill.{cachable}
 use Rattle.model.proofs.Routes.{parent_before}
 use Rattle.node_words.specs.Words.{word_at, distance_word, word_of, NodeRoom, SiteRoom}
-use Rattle.node_words.proofs.Words.{room_sound, room_parent}
+use Rattle.node_words.proofs.Words.{room_sound, room_some, room_parent}
 use Rattle.greedy.specs.Savings.{most_reach, serving_distance, gathered}
 use Rattle.greedy.specs.Words.{serving_distance_word, reach_word, mark_word, marked_sites, served_from, Wrote, DistancesStored, PassedFrom, Passes, Gathers}
 use Rattle.greedy.proofs.Reaches.{serving_distance_up}
@@ -51,54 +51,31 @@ module _ {file : List ℕ} {n : ℕ} {s : List ℕ} {v : ℕ} (room : SiteRoom f
       (λ p h other. sum_at p h ∙ sym (gathered_other t d pre v p (within below) other))
 
   -- and the sum stays small
-  pub passed_small : {up : ℕ} → up ≡ t.parent v → (up < n) × (word_of s up reach_word + word_of s v reach_word < 2 ^ 64)
+  pub passed_small : {up : ℕ} → up ≡ t.parent v → word_of s up reach_word + word_of s v reach_word < 2 ^ 64
   passed_small {up} eu =
       let below = room.below in
       let first : up < n = omega (arith, room_parent room) in
       let bound : (p : ℕ) → p < n → gathered t d (suc v) p ≤ most_reach = λ p h. gathered_bound t d (room_sound room.nodes) p v (within h) (within below) in
-      (first, omega (arith, sum_at up first, sum_at v below, bound up first, bound v below))
-
--- the nodes after node v were passed
-abbrev pub Gathering : List ℕ → ℕ → List ℕ → List ℕ → ℕ → Type 0
-Gathering file n s r v = (v < n) × Passes file n (v + 1) s r
+      omega (arith, sum_at up first, sum_at v below, bound up first, bound v below)
 
 module _ {file : List ℕ} {n : ℕ} {o s : List ℕ} (room : NodeRoom file n o)
     (own : Wrote n reach_word (cachable (demand_of file)) n o s) where
-  pub pass_begins : Gathering file n s s (n - 1)
+  -- no node is passed yet
+  pub pass_begins : (1 ≤ n) × Passes file n n s s
   pass_begins =
-      let ok = room_sound room in
-      let last : n - 1 + 1 ≡ (tree_of file).count = omega (arith, room.count, ok.some) in (
-        omega (arith, room.count, ok.some),
-        wrote_nothing n reach_word _ (λ p h. own.held p h ∙ sym (rw last (gathered_none (tree_of file) (demand_of file) ok.preorder p))),
-      )
+      let pre = (room_sound room).preorder in
+      (room_some room, wrote_nothing n reach_word _ (λ p h. own.held p h ∙ sym (rw room.count (gathered_none (tree_of file) (demand_of file) pre p))))
 
-  pub pass_site : {r : List ℕ} {v : ℕ} → Gathering file n s r v → 0 < v → SiteRoom file n r v
-  pass_site p h =
-      record {
-        nodes = record {
-          accepted = room.accepted;
-          count = room.count;
-          room = omega (arith, room.room, own.front.long, p.1.front.long);
-        };
-        site = h;
-        below = p.0;
-      }
-
-  pub pass_turns : {r l : List ℕ} {v : ℕ} → Gathering file n s r v → 0 < v → Passes file n v r l → Gathering file n s l (v - 1)
-  pass_turns {v = v} p h wrote =
-      let one : v - 1 + 1 ≡ v = omega arith in
-      (omega (arith, p.0), rw one (wrote_then n reach_word _ p.1 wrote))
-
-  pub pass_ends : {r : List ℕ} {v : ℕ} → Gathering file n s r v → v ≤ 0 → Gathers file n o r
+  -- all but the server are
+  pub pass_ends : {r : List ℕ} {v : ℕ} → (1 ≤ v) × Passes file n v s r → v ≤ 1 → Gathers file n o r
   pass_ends {v = v} p h =
-      let ok = room_sound room in
-      let done : v + 1 ≡ 1 = omega arith in
+      let pre = (room_sound room).preorder in
+      let done : v ≡ 1 = omega (arith, p.0) in
       wrote_then n reach_word _ own
       (record {
         front = p.1.front;
         others = p.1.others;
-        held = λ x b. rw done at (p.1.held x b)
-            ∙ gathered_all (tree_of file) (demand_of file) ok.preorder x 0 (omega (arith, room.count)) (omega arith);
+        held = λ x b. rw done at (p.1.held x b) ∙ gathered_all (tree_of file) (demand_of file) pre x 0 (omega (arith, room.count)) (omega arith);
       })
 
 -- ---- serving distances

@@ -1,18 +1,18 @@
 -- The loop over the budget: the words, the total and both buffers after b steps.
 use mathlib.Core.Path.{◌≡◌, refl, sym, ap, ◌∙◌}
-use mathlib.Core.List.{List, [], map}
+use mathlib.Core.List.{List, [], ◌∷◌, ◌++◌, map}
 use Prim.Native.Nat.{ℕ, zero, suc, ◌+◌, ◌*◌, ◌-◌, ◌≤◌, ◌<◌}
 use native.Mathlib.Nat.{add-zero}
 use native.Mathlib.Numerals.{add-one}
 use native.Mathlib.Omega.{arith}
-use lib.ListN.{length, set, get_or}
-use lib.Seq.{sets, length-sets}
+use lib.ListN.{length, take, drop, set, get_or, replicate}
+use lib.Seq.{sets}
 use Rattle.laws.specs.Lists.{range}
 use Rattle.laws.specs.FirstGreatest.{FirstGreatest}
 use Rattle.laws.specs.Fronts.{FrontOnly}
-use Rattle.laws.proofs.Lists.{entries_padded}
+use Rattle.laws.proofs.Lists.{entries_padded, length_of_range}
 use Rattle.laws.proofs.Fronts.{front_only_then}
-use Rattle.laws.proofs.Stores.{sets_front, loop_begins, loop_turns}
+use Rattle.laws.proofs.Stores.{length_part, sets_front, sets_part, loop_begins, loop_turns}
 use Rattle.model.specs.File.{Tree, Demand, tree_of, demand_of, budget_of, most_budget}
 use Rattle.model.specs.Bill.{total}
 use Rattle.model.specs.Greedy.{with_node, greedy_nodes, greedy_set, greedy_total}
@@ -22,13 +22,15 @@ use Rattle.model.proofs.Accepted.{accepted_header}
 use Rattle.model.proofs.GreedyRuns.{greedy_runs}
 use Rattle.model.proofs.Written.{length_greedy_totals, length_greedy_row}
 use Rattle.node_words.specs.Words.{node_words, NodeRoom, Measured}
-use Rattle.node_words.proofs.Words.{room_sound, room_kept}
+use Rattle.node_words.proofs.Words.{room_sound, room_some, room_kept}
+use Rattle.std.specs.Prelude.{Some, None}
+use Rattle.greedy.specs.declared.Found.{Found}
 use Rattle.greedy.specs.Savings.{is_closed, is_passed_over, saving}
-use Rattle.greedy.specs.Words.{serving_distance_word, mark_word, marked_sites, saving_from, Wrote, DistancesStored, Current, Gathers, Prepared, Free, SiteTaken}
+use Rattle.greedy.specs.Words.{serving_distance_word, mark_word, marked_sites, saving_from, Wrote, DistancesStored, Current, Gathers, Prepared, Free, Finds, SiteTaken}
 use Rattle.greedy.specs.Run.{GreedyRoom, Filled, GreedyWritten}
 use Rattle.greedy.proofs.EmptySet.{serving_distance_none}
 use Rattle.greedy.proofs.Words.{marks_kept, marked_none, stored_kept}
-use Rattle.greedy.proofs.BestSite.{search_finds_site}
+use Rattle.greedy.proofs.BestSite.{none_saves, search_finds_site}
 use Rattle.greedy.proofs.Steps.{not_passed}
 use Rattle.greedy.proofs.Turns.{greedy_begins, found_none, found_node, found_set, found_within, found_total}
 
@@ -70,8 +72,7 @@ standing_first {file} now marks e =
     let none = greedy_begins (tree_of file) (demand_of file) in
     record { current = now; marks = rw none marks; total = rw none e }
 
-module _ {file : List ℕ} {n k : ℕ} {s : List ℕ} {sum b site most : ℕ} (st : Standing file n s sum b) (h : b < k)
-    (finds : FirstGreatest (is_closed (tree_of file)) (saving_from s) n site most) where
+module _ {file : List ℕ} {n k : ℕ} {s : List ℕ} {sum b : ℕ} (st : Standing file n s sum b) (h : b < k) where
   abbrev t : Tree
   t = tree_of file
 
@@ -81,37 +82,38 @@ module _ {file : List ℕ} {n k : ℕ} {s : List ℕ} {sum b site most : ℕ} (s
   ok : Sound t d
   ok = room_sound st.current.stored.room
 
-  outside : FirstGreatest (is_passed_over t (marked_sites n s)) (saving t d (marked_sites n s)) n site most
-  outside = search_finds_site st.current finds
-
-  found : FirstGreatest (is_passed_over t (greedy_set t d b)) (saving t d (greedy_set t d b)) t.count site most
-  found = rw (st.marks, st.current.stored.room.count) at outside
+  found : {site most : ℕ} → FirstGreatest (is_closed t) (saving_from s) n site most
+      → FirstGreatest (is_passed_over t (greedy_set t d b)) (saving t d (greedy_set t d b)) t.count site most
+  found first = rw (st.marks, st.current.stored.room.count) at (search_finds_site st.current first)
 
   -- where no site saves, every later step leaves the total and takes no node
-  pub step_rests : most ≡ 0 → (j : ℕ) → b ≤ j → j < k → (0 ≡ get_or (greedy_nodes t d k) j 0) × (sum ≡ greedy_total t d (suc j))
-  step_rests e j from to =
-      let none = found_none t d k b h ok.preorder ok.part found e j from to in
-      (none.0, st.total ∙ sym none.1)
+  pub step_rests : Finds t s n None → (j : ℕ) → b ≤ j → j < k → (0 ≡ get_or (greedy_nodes t d k) j 0) × (sum ≡ greedy_total t d (suc j))
+  step_rests none j from to =
+      let rests = found_none t d k b h ok.preorder ok.part (found (none_saves t s (room_some st.current.stored.room) none)) refl j from to in
+      (rests.0, st.total ∙ sym rests.1)
 
-  module _ (saves : 0 < most) where
-    pub step_free : Free n site s
-    step_free = let here = outside.held saves in record { site = here.0; below = outside.below; outside = (not_passed t (marked_sites n s) site here.1).1 }
+  module _ {x : Found} (finds : Finds t s n (Some x)) where
+    pub step_free : Free n x.site s
+    step_free =
+        let outside = search_finds_site st.current finds.1 in
+        let here = outside.held finds.0 in
+        record { site = here.0; below = outside.below; outside = (not_passed t (marked_sites n s) x.site here.1).1 }
 
-    pub step_node : site ≡ get_or (greedy_nodes t d k) b 0
-    step_node = found_node t d k b h ok.preorder ok.part found saves
+    pub step_node : x.site ≡ get_or (greedy_nodes t d k) b 0
+    step_node = found_node t d k b h ok.preorder ok.part (found finds.1) finds.0
 
-    pub step_within : most ≤ sum
-    step_within = omega (arith, st.total, found_within t d k b h ok.preorder ok.part found saves)
+    pub step_within : x.saving.0 ≤ sum
+    step_within = omega (arith, st.total, found_within t d k b h ok.preorder ok.part (found finds.1) finds.0)
 
-    pub step_total : {left : ℕ} → left ≡ sum - most → left ≡ greedy_total t d (suc b)
-    step_total e = omega (arith, st.total, found_total t d k b h ok.preorder ok.part found saves)
+    pub step_total : {left : ℕ} → left ≡ sum - x.saving.0 → left ≡ greedy_total t d (suc b)
+    step_total e = omega (arith, st.total, found_total t d k b h ok.preorder ok.part (found finds.1) finds.0)
 
-    pub step_stands : {l : List ℕ} {left : ℕ} → SiteTaken file n site s l → left ≡ sum - most → Standing file n l left (b + 1)
+    pub step_stands : {l : List ℕ} {left : ℕ} → SiteTaken file n x.site s l → left ≡ sum - x.saving.0 → Standing file n l left (b + 1)
     step_stands done e =
         rw (add-one b)
         (record {
           current = done.current;
-          marks = done.marks ∙ ap (with_node site) st.marks ∙ sym (found_set t d k b h ok.preorder ok.part found saves);
+          marks = done.marks ∙ ap (with_node x.site) st.marks ∙ sym (found_set t d k b h ok.preorder ok.part (found finds.1) finds.0);
           total = step_total e;
         })
 
@@ -161,30 +163,20 @@ module _ {file : List ℕ} {k : ℕ} {totals nodes : List ℕ} where
       let all : b + (k - b) ≡ k = omega arith in
       rw (filled.totals_filled, filled.nodes_filled) (rw all at (written_more w same (k - b) (omega arith)))
 
-  pub written_long : {b : ℕ} {totals' nodes' : List ℕ} → Written file k b totals nodes totals' nodes'
-      → (length totals' ≡ length totals) × (length nodes' ≡ length nodes)
-  written_long w = (ap length w.totals_written ∙ simp length-sets, ap length w.nodes_written ∙ simp length-sets)
-
 -- ---- the steps that are left where none saves
 
-module _ {b sum : ℕ} {totals nodes : List ℕ} where
-  pub filled_none : Filled b b sum totals nodes totals nodes
-  filled_none =
-      let none : b - b ≡ 0 = omega arith in
-      record { totals_filled = rw none (loop_begins totals (b + 1) _); nodes_filled = rw none (loop_begins nodes b _) }
+copies : (n x i : ℕ) → replicate n x ≡ map (λ _. x) (range i n)
+unfolding range
+copies zero x i = refl
+copies (suc n) x i = ap (λ l. x ∷ l) (copies n x (suc i))
 
-  pub filled_next : {j : ℕ} {totals' nodes' totals'' nodes'' : List ℕ} → b ≤ j → Filled b j sum totals nodes totals' nodes'
-      → totals'' ≡ set totals' (j + 1) sum → nodes'' ≡ set nodes' j 0 → Filled b (j + 1) sum totals nodes totals'' nodes''
-  filled_next {j = j} h f et en =
-      let one : j + 1 - b ≡ j - b + 1 = omega arith in
-      record {
-        totals_filled = et ∙ rw one (loop_turns totals (b + 1) _ (j - b) f.totals_filled (omega arith) refl);
-        nodes_filled = en ∙ rw one (loop_turns nodes b _ (j - b) f.nodes_filled (omega arith) refl);
-      }
-
-  pub filled_long : {j : ℕ} {totals' nodes' : List ℕ} → Filled b j sum totals nodes totals' nodes'
-      → (length totals' ≡ length totals) × (length nodes' ≡ length nodes)
-  filled_long f = (ap length f.totals_filled ∙ simp length-sets, ap length f.nodes_filled ∙ simp length-sets)
+-- a part of j entries that is filled is a run of stores
+pub part_filled : (l xs : List ℕ) (i j x : ℕ) → i + j ≤ length l → xs ≡ replicate (length (take j (drop i l))) x
+    → take i l ++ (xs ++ drop j (drop i l)) ≡ sets l i (map (λ _. x) (range 0 j))
+part_filled l xs i j x h e =
+    let long = length_part l i j h in
+    ap (λ p. take i l ++ (p ++ drop j (drop i l))) (e ∙ rw long (copies j x 0))
+    ∙ sets_part l i (map (λ _. x) (range 0 j)) j (length_of_range (λ _. x) 0 j) h
 
 -- ---- after the last step
 
@@ -210,9 +202,3 @@ run_ends {file} {totals = totals} {nodes = nodes} given front w all =
           ∙ ap (sets nodes 0) (sym (row_by_entries file))
           ∙ sets_front nodes (greedy_row file) (omega (arith, length_greedy_row file, given.nodes_long, given.budget));
     }
-
--- what was prepared before counts as part of the run
-pub run_prepared : {file : List ℕ} {n : ℕ} {words first totals nodes words' totals' nodes' : List ℕ} → FrontOnly (node_words * n) words first
-    → GreedyWritten file n first totals nodes words' totals' nodes' → GreedyWritten file n words totals nodes words' totals' nodes'
-run_prepared {n = n} front done =
-    record { front = front_only_then (node_words * n) front done.front; totals_after = done.totals_after; nodes_after = done.nodes_after }

@@ -1,13 +1,17 @@
 -- What the scratch holds of each node while the greedy rule runs: its distance, the distance of its serving node, the cachable
 -- flow that reaches it, and a mark, 1 where it is taken.
-use Rattle.std.specs.Prelude.{◌≡◌, false, cond, List, [], ℕ, ◌*◌, ◌-◌, ◌≤◌, ◌<◌, ◌^◌, eqb, length}
+use Rattle.std.specs.Prelude.{◌≡◌, false, cond, List, [], Option, Some, None, ℕ, ◌*◌, ◌-◌, ◌≤◌, ◌<◌, ◌^◌, eqb, length}
 use Rattle.laws.specs.Lists.{range, has, those}
 use Rattle.laws.specs.Fronts.{FrontOnly}
+use Rattle.laws.specs.FirstGreatest.{FirstGreatest}
 use Rattle.model.specs.File.{Tree, tree_of, demand_of}
 use Rattle.model.specs.Tree.{distance}
 use Rattle.model.specs.Greedy.{with_node}
 use Rattle.node_words.specs.Words.{node_words, distance_word, word_of, NodeRoom}
-use Rattle.greedy.specs.Savings.{serving_distance, reach, gathered}
+use Rattle.greedy.specs.Savings.{is_closed, serving_distance, reach, gathered}
+use Rattle.greedy.specs.declared.Found.{Found}
+use Rattle.greedy.specs.declared.Word.{Word}
+use Rattle.greedy.specs.declared.Word.TheVariants.{ServingDistance, Reach, Mark}
 
 abbrev pub serving_distance_word : ℕ
 serving_distance_word = 1
@@ -17,6 +21,11 @@ reach_word = 2
 
 abbrev pub mark_word : ℕ
 mark_word = 3
+
+abbrev pub word_number : Word → ℕ
+word_number ServingDistance = serving_distance_word
+word_number Reach = reach_word
+word_number Mark = mark_word
 
 -- the sites that are marked
 unfoldable pub marked_sites : ℕ → List ℕ → List ℕ
@@ -76,6 +85,11 @@ pub record Weighed (n : ℕ) (words : List ℕ) : Type 0 where
   pub room : node_words * n ≤ length words
   pub near : (v : ℕ) → v < n → word_of words v serving_distance_word ≤ word_of words v distance_word
   pub small : (v : ℕ) → v < n → saving_from words v < 2 ^ 64
+
+-- what a step finds among the nodes before v: the first of the open sites that save most, and something, or that none saves
+abbrev pub Finds : Tree → List ℕ → ℕ → Option Found → Type 0
+Finds t words v (Some found) = (0 < found.saving.0) × FirstGreatest (is_closed t) (saving_from words) v found.site found.saving.0
+Finds t words v None = (u : ℕ) → 1 ≤ u → u < v → is_closed t u ≡ false → saving_from words u ≡ 0
 
 -- a site that is not marked
 pub record Free (n x : ℕ) (words : List ℕ) : Type 0 where

@@ -16,8 +16,7 @@ fn print_report<R: Read, W: Write>(input: &mut R, out: &mut W) -> io::Result<()>
     let mut file = [0u8; program_report::FIRST_LOOK];
     let n = first_bytes::read_into(input, &mut file)?;
     let text = report_text::program_text(&file[..n]);
-    let bytes = text.bytes;
-    out.write_all(&bytes[..text.length])
+    out.write_all(text.bytes())
 }
 
 fn main(rt: HostRuntime) -> io::Result<()> {

@@ -10,6 +10,11 @@ use Rattle.model.specs.Calls.{answered, refused, Least}
 use Rattle.model.specs.WithOrWithout.{with_or_without_verdict, WithOrWithoutCall}
 use Rattle.model.specs.Hosts.{total_or_none, HostWithOrWithoutMemory, host_with_or_without_verdict, HostWithOrWithoutCall}
 use Rattle.model.proofs.Verdicts.{then_none, answered_passed, refused_broken}
+use Rattle.std.specs.Prelude.{Result, ⊤}
+use Rattle.std.specs.Result.{IsErrAnd}
+use Rattle.tree_file.specs.declared.rules.Refusal.{Refusal}
+use Rattle.tree_file.specs.Refusals.{rule_number, verdict_of}
+use Rattle.tree_file.proofs.Rulings.{refused_as}
 use Rattle.one_site.specs.Site.{site_verdict}
 use Rattle.one_site.proofs.Asked.{verdict_is}
 use Rattle.kterc_c.proofs.Room.{ends_refused}
@@ -33,11 +38,12 @@ module _ (file : List ℕ) (v b : ℕ) (memory : HostWithOrWithoutMemory) where
     same_questions : host_with_or_without_verdict file v b memory ≡ with_or_without_verdict file v b memory.scratch
     same_questions = rw (le-leb 2 (length memory.totals) room) at questions ∙ then_none (with_or_without_verdict file v b memory.scratch)
 
-    pub found_refused : {q i : ℕ} {left : List ℕ} → WithOrWithoutCall file v b memory.scratch (refused q i) left
-        → HostWithOrWithoutCall file v b memory (broken q i) record { scratch = left; totals = memory.totals }
-    found_refused call =
-        let e = refused_broken (with_or_without_verdict file v b memory.scratch) _ call.answers in
-        record { verdict = sym (same_questions ∙ e); scratch_after = rw e at call.scratch_after; totals_after = refl }
+    pub found_refused : (r : Result ⊤ Refusal) (e : Refusal) {left : List ℕ} → IsErrAnd r (λ y. y ≡ e)
+        → WithOrWithoutCall file v b memory.scratch (refused (rule_number e.rule) e.record) left
+        → HostWithOrWithoutCall file v b memory (verdict_of r) record { scratch = left; totals = memory.totals }
+    found_refused r e h call =
+        let told = refused_broken (with_or_without_verdict file v b memory.scratch) _ call.answers in
+        rw (refused_as r e h refl) (record { verdict = sym (same_questions ∙ told); scratch_after = rw told at call.scratch_after; totals_after = refl })
 
     -- both are written, the first as none where it is none
     pub found_written : (x y : Least) {left : List ℕ} → WithOrWithoutCall file v b memory.scratch (answered (x, y)) left

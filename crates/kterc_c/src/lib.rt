@@ -2,25 +2,23 @@
 #![tactic(auto)]
 
 ghost use Rattle.std.specs.Prelude.{◌≡◌};
-ghost use Rattle.model.specs.Rules.{Verdict, broken, ◌then◌, file_verdict, ask_set};
-ghost use Rattle.model.specs.Calls.{answer, check_number, ranking, PlanMemory, plan_verdict, PlanCall, GreedyMemory, greedy_verdict, GreedyCall};
+ghost use Rattle.model.specs.Rules.{broken, ◌then◌, file_verdict, ask_set};
+ghost use Rattle.model.specs.Calls.{check_number, ranking, PlanMemory, plan_verdict, PlanCall, GreedyMemory, greedy_verdict, GreedyCall};
 ghost use Rattle.model.specs.Report.{ReportMemory, report_verdict, ReportCall};
-ghost use Rattle.model.specs.Hosts.{code_of, words_asked, record_place, rank_code, HostBillMemory, host_bill_verdict, HostBillCall, HostWithOrWithoutMemory, host_with_or_without_verdict, HostWithOrWithoutCall, HostLeastBudgetCall};
-ghost use Rattle.fields.specs.declared.Tree as code;
-ghost use Rattle.tree_file.specs.Checks.{verdict_of, answer_of};
+ghost use Rattle.model.specs.Hosts.{code_of, words_asked, record_place, rank_code, total_or_none, HostBillMemory, host_bill_verdict, HostBillCall, HostWithOrWithoutMemory, host_with_or_without_verdict, HostWithOrWithoutCall, HostLeastBudgetCall};
+ghost use Rattle.tree_file.specs.Refusals.{verdict_of};
+ghost use Rattle.one_site.specs.Answers.{least_of};
 
 use compare::Ranking;
-use least_budget::LeastBudget;
-use one_site::WithOrWithout;
-use placement::Billed;
-use tree_file::{Checked, Ruling};
+use fields::TreeFile;
+use tree_file::{Refusal, Rule};
 use units::Total;
 
 // The rule's number is one byte of an answer, and the record stands above it.
 const CODE_UNIT: u32 = 256;
 
 // Stands for "none" among totals: the largest number of 64 bits, which no total reaches.
-const NO_TOTAL: u64 = 18_446_744_073_709_551_615;
+const NO_TOTAL: u64 = u64::MAX;
 
 // The answer "none" of a call: a number that no rule has.
 const NONE: u32 = 255;
@@ -31,12 +29,15 @@ const FIRST: u32 = 253;
 const SECOND: u32 = 254;
 
 // A ruling as one number: record × 256 + number, 0 where no rule is broken.
-fn code_of(ruling: Ruling) -> u32
+fn code_of(ruling: Result<(), Refusal>) -> u32
     ensures { result ≡ code_of (verdict_of ruling) }
 {
     match ruling {
-        Ruling::Passed => 0,
-        Ruling::Broken(q, record) => record as u32 * CODE_UNIT + q as u32,
+        Ok(()) => 0,
+        Err(refusal) => {
+            let number = refusal.rule.number();
+            u32::from(refusal.record) * CODE_UNIT + u32::from(number)
+        }
     }
 }
 
@@ -65,28 +66,28 @@ pub fn kterc_record(file: &[u8], node: usize) -> usize
 pub fn kterc_rank(file: &[u8], first: &[u16], second: &[u16]) -> u32
     ensures { result ≡ rank_code (ranking file.now first.now second.now) }
 {
-    let ranking = compare::rank(file, first, second);
-    match ranking {
-        Ranking::First => FIRST,
-        Ranking::Second => SECOND,
-        Ranking::Refused(number, record) => code_of(Ruling::Broken(number, record)),
+    match compare::rank(file, first, second) {
+        Ok(Ranking::First) => FIRST,
+        Ok(Ranking::Second) => SECOND,
+        Err(refused) => code_of(Err(refused)),
     }
 }
 
-// The answer of a bill with no room for its total: rules 1 to 12, then rule 14, which is broken.
-fn no_room(file: &[u8], set: &[u16]) -> Ruling
-    ensures { verdict_of result ≡ (file_verdict file.now then ask_set file.now set.now then broken 14 0) }
+// The answer where there is no room for what is written: the refusal of the rules that were checked, else rule 14's.
+fn no_room_after<T: Copy>(checked: Result<T, Refusal>) -> Result<(), Refusal>
+    ensures { verdict_of result ≡ (verdict_of checked then broken 14 0) }
 {
-    let ruling = tree_file::file_ruling(file);
-    match ruling {
-        Ruling::Passed => {
-            if !placement::is_set(file, fields::count_of(file), set) {
-                return Ruling::Broken(12, 0);
-            }
-            Ruling::Broken(14, 0)
-        }
-        Ruling::Broken(q, record) => Ruling::Broken(q, record),
-    }
+    checked?;
+    Rule::Buffers.ask(false)
+}
+
+// The rules that a bill asks before rule 14: those about the file, then rule 12.
+fn set_ruling(file: &[u8], set: &[u16]) -> Result<(), Refusal>
+    ensures { verdict_of result ≡ (file_verdict file.now then ask_set file.now set.now) }
+{
+    tree_file::file_ruling(file)?;
+    let file = TreeFile::of(file);
+    Rule::Set.ask(placement::is_set(&file, file.count(), set))
 }
 
 // The bill, with its total as a buffer.
@@ -96,20 +97,15 @@ fn bill(
     total: &mut [u64],
     serving: &mut [u16],
     loads: &mut [u64],
-) -> Ruling
+) -> Result<(), Refusal>
     ensures { HostBillCall file.now set.now record { totals = total.old; servings = serving.old; loads = loads.old } (verdict_of result) record { totals = total.new; servings = serving.new; loads = loads.new } }
 {
     if total.len() < 1 {
-        return no_room(file, set);
+        return no_room_after(set_ruling(file, set));
     }
-    let billed = placement::bill(file, set, serving, loads);
-    match billed {
-        Billed::Total(sum) => {
-            total[0] = sum.0;
-            Ruling::Passed
-        }
-        Billed::Refused(q, record) => Ruling::Broken(q, record),
-    }
+    let sum = placement::bill(file, set, serving, loads)?;
+    total[0] = sum.0;
+    Ok(())
 }
 
 // The bill of a set: its total in the first entry of `total`, then the serving node and the load above each node.
@@ -157,14 +153,11 @@ pub fn kterc_report(
     code_of(report::report(file, scratch, totals, rows, greedy_totals, greedy_nodes))
 }
 
-// The answer where there is no room for what is written: the refusal of the rules that were checked, else rule 14's.
-fn no_room_after(checked: Checked) -> Ruling
-    ensures { (v : Verdict) (sizes : code.Tree) → answer_of checked ≡ answer v sizes → verdict_of result ≡ (v then broken 14 0) }
+// A least total as a host reads it.
+fn total_or_none(least: Option<Total>) -> u64
+    ensures { result ≡ total_or_none (least_of least) }
 {
-    match checked {
-        Checked::Accepted(_) => Ruling::Broken(14, 0),
-        Checked::Refused(q, record) => Ruling::Broken(q, record),
-    }
+    least.map_or(NO_TOTAL, |total| total.0)
 }
 
 // The least totals with a node and without it, as a buffer.
@@ -174,26 +167,16 @@ fn with_without(
     budget: usize,
     scratch: &mut [u64],
     totals: &mut [u64],
-) -> Ruling
+) -> Result<(), Refusal>
     ensures { HostWithOrWithoutCall file.now node budget record { scratch = scratch.entry.now; totals = totals.old } (verdict_of result) record { scratch = scratch.exit.now; totals = totals.new } }
 {
     if totals.len() < 2 {
         return no_room_after(one_site::check(file, node, budget, scratch.len()));
     }
-    let found = one_site::with_or_without(file, node, budget, scratch);
-    match found {
-        WithOrWithout::Both(with, without) => {
-            totals[0] = with.0;
-            totals[1] = without.0;
-            Ruling::Passed
-        }
-        WithOrWithout::Without(without) => {
-            totals[0] = NO_TOTAL;
-            totals[1] = without.0;
-            Ruling::Passed
-        }
-        WithOrWithout::Refused(q, record) => Ruling::Broken(q, record),
-    }
+    let leasts = one_site::with_or_without(file, node, budget, scratch)?;
+    totals[0] = total_or_none(leasts.with);
+    totals[1] = leasts.without.0;
+    Ok(())
 }
 
 // The least total of all sets of at most `budget` nodes that contain the node, or NO_TOTAL, and the least of those that don't, in
@@ -225,13 +208,12 @@ pub fn kterc_target(
     if budget.len() < 1 {
         return code_of(no_room_after(lent::check(file, scratch.len())));
     }
-    let found = least_budget::from_target(file, Total(target), scratch, row);
-    match found {
-        LeastBudget::Budget(b) => {
+    match least_budget::from_target(file, Total(target), scratch, row) {
+        Ok(Some(b)) => {
             budget[0] = b;
             0
         }
-        LeastBudget::None => NONE,
-        LeastBudget::Refused(q, record) => code_of(Ruling::Broken(q, record)),
+        Ok(None) => NONE,
+        Err(refusal) => code_of(Err(refusal)),
     }
 }

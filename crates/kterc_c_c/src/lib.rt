@@ -1,4 +1,5 @@
 // The exports for hosts in C, as include/kterc.h declares them: each slice is a pointer and a length. Each calls the function of its name in kterc_c.
+// They repeat the ten calls since C needs a static library, and the tests of the calls need a library: a crate is one or the other.
 #![tactic(auto)]
 
 ghost use Rattle.std.specs.Prelude.{◌≡◌};

@@ -1,6 +1,6 @@
 -- Rules 13 and 14 after the rules about the file.
 use mathlib.Core.Path.{◌≡◌, sym, ap, ap₂, ◌∙◌}
-use mathlib.Core.Bool.{Bool, true, false, ◌&&◌}
+use mathlib.Core.Bool.{Bool, false, ◌&&◌}
 use mathlib.Core.List.{List}
 use Prim.Native.Nat.{ℕ, suc, ◌+◌, ◌≤◌, ◌<◌}
 use native.Mathlib.Omega.{arith}
@@ -14,6 +14,7 @@ use Rattle.model.proofs.Verdicts.{ask_passed, then_passed, then_grouped, answere
 use Rattle.fields.specs.declared.Tree as code
 use Rattle.tree_file.specs.Checks.{sizes_of, AcceptedSizes, SizesHold}
 use Rattle.tree_file.proofs.Accepted.{sizes_hold}
+use Rattle.tree_file.proofs.Rulings.{passes}
 use Rattle.lent.specs.Lent.{lent_verdict, LentRoom}
 
 -- ---- rule 13
@@ -27,18 +28,12 @@ module _ (file : List ℕ) where
     unfolding words_asked accepted
     words_of_accepted h = rw (answered_sizes e).accepted h
 
-    pub scratch_held : (words : ℕ) → leb (scratch_words file) words ≡ true → answered sizes ≡ answer (lent_verdict file words) (sizes_of file)
+    -- rule 13 holds too
+    pub scratch_held : (words : ℕ) → passed ≡ ask 13 0 (leb (scratch_words file) words) → answered sizes ≡ answer (lent_verdict file words) (sizes_of file)
     unfolding lent_verdict
-    scratch_held words h = let of = answered_sizes e in rw (of.accepted, h, of.of_file)
-
-    pub scratch_short_lem : (words : ℕ) → leb (scratch_words file) words ≡ false → refused 13 0 ≡ answer (lent_verdict file words) (sizes_of file)
-    unfolding lent_verdict
-    scratch_short_lem words h = rw ((answered_sizes e).accepted, h)
-
-  pub scratch_unasked : (words q i : ℕ) → refused q i ≡ answer (file_verdict file) (sizes_of file)
-      → refused q i ≡ answer (lent_verdict file words) (sizes_of file)
-  unfolding lent_verdict
-  scratch_unasked words q i e = rw (refused_broken (file_verdict file) (sizes_of file) e)
+    scratch_held words h =
+        let ok = (answered_sizes e).accepted in
+        e ∙ ap (λ v. answer v (sizes_of file)) (ok ∙ passes _ (sym ok) h)
 
   pub words_of_refused_lem : (q i : ℕ) → refused q i ≡ answer (file_verdict file) (sizes_of file) → 0 ≡ words_asked file
   unfolding words_asked accepted

@@ -1,7 +1,6 @@
 pub mod Entries
 pub mod RunningMin
 pub mod Node
-pub mod Place
 pub mod Row
 pub mod First
 pub mod LeastSplit

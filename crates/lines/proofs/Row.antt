@@ -6,44 +6,22 @@ use Prim.Native.Nat.{ℕ, zero, suc, ◌+◌, ◌-◌, ◌≤◌, ◌<◌, min}
 use native.Mathlib.Numerals.{add-one}
 use native.Mathlib.Decide.{dec_lt}
 use native.Mathlib.Omega.{arith}
-use lib.ListN.{length, take, get_or, set}
-use lib.Seq.{take_all, get_or-set_same, get_or-set_other, sets}
-use Rattle.laws.specs.Lists.{range}
+use lib.ListN.{length, take, get_or, set, replicate, length-replicate}
+use lib.Seq.{get_or-set_same, get_or-set_other, get_or-take, length-take-le}
+use borrow.Rule.Slice.PartMut.{put_mid}
+use Rattle.std.proofs.Common.{rules}
+use Rattle.std.proofs.lemmas.List.{places, get_or_append_left, get_or-append_right, get_or-replicate}
+use Rattle.laws.specs.Lists.{range, part}
 use Rattle.laws.proofs.Lists.{length_of_range}
-use Rattle.laws.proofs.Stores.{front_stored}
-use Rattle.laws.proofs.FrontValues.{same_on_range, front_is_entries}
+use Rattle.laws.proofs.Stores.{length_part}
+use Rattle.laws.proofs.FrontValues.{same_on_range}
 use Rattle.best_rows.specs.Least.{running_min}
 use Rattle.best_rows.specs.Best.{cap, split, row_best}
 use Rattle.best_rows.proofs.Least.{running_min_is}
-use Rattle.lines.specs.Line.{entry_of, Line, LineParts, RowParts, line_node, line_own, line_split, line_best, empty_best, joined_split, joined_best, Begun, Cleared, Lowered}
-use Rattle.lines.proofs.Entries.{entry_inside, entry_past, entry_of_rule}
+use Rattle.lines.specs.Line.{entry_of, Line, LineParts, RowParts, line_node, line_own, line_split, line_best, empty_best, joined_split, joined_best, Begun, Lowered}
+use Rattle.lines.proofs.Entries.{by_entries, entry_inside, entry_past, entry_of_rule}
 use Rattle.lines.proofs.Node.{node_none, own_without_caches, own_with_caches, empty_none, empty_some, leaf_none, leaf_one, leaf_more}
 use Rattle.lines.proofs.RunningMin.{running_min_within, running_min_same, running_min_leaves_out, running_min_reversed}
-
--- ---- the cap stored in one entry after the other from `end` on
-
-module _ (before : List ℕ) (end : ℕ) where
-  -- as far as n
-  pub record ClearedTo (n : ℕ) (after : List ℕ) : Type 0 where
-    pub kept : (i : ℕ) → i < end → get_or after i 0 ≡ get_or before i 0
-    pub none : (i : ℕ) → end ≤ i → i < n → get_or after i 0 ≡ cap
-
-  pub clear_begins : ClearedTo end before
-  clear_begins = record { kept = λ i h. refl; none = λ i h k. absurd (omega arith) }
-
-  pub clear_next : (n : ℕ) (after : List ℕ) → end ≤ n → n < length after → ClearedTo n after → ClearedTo (n + 1) (set after n cap)
-  clear_next n after from h so_far = record {
-    kept = λ i k. get_or-set_other after n i cap 0 (λ e. omega arith) ∙ so_far.kept i k;
-    none =
-        λ i k l.
-        elim (dec_lt i n) [
-          | yes p ↦ get_or-set_other after n i cap 0 (λ e. omega arith) ∙ so_far.none i k p
-          | no p ↦ let last : i ≡ n = omega arith in rw last (get_or-set_same after n cap 0 h)
-        ];
-  }
-
-  pub clear_ends : (n : ℕ) (after : List ℕ) → length before ≤ n → ClearedTo n after → Cleared before end after
-  clear_ends n after h so_far = record { kept = so_far.kept; none = λ i k l. so_far.none i k (omega arith) }
 
 -- ---- one pass of the inner loop: line[r + n] becomes other[n] + x where that is smaller
 
@@ -89,17 +67,36 @@ module _ (first second : List ℕ) where
         ];
   }
 
-  pub row_begins : (line after : List ℕ) {x : ℕ} → length after ≡ length line → 0 < length second → x ≡ get_or second 0 0
-      → Begun first x line → Cleared line (length first) after → LeastBefore 1 after
-  unfolding running_min
-  row_begins line after long some hx begun cleared m h =
-      let one : min 1 (m + 1) ≡ 1 = omega arith in
-      let all : m - 0 ≡ m = omega arith in
-      rw (one, all)
-      (elim (dec_lt m (length first)) [
-        | yes l ↦ omega (arith, cleared.kept m l, begun m l, entry_inside first m l, entry_inside second 0 some)
-        | no l ↦ omega (arith, cleared.none m (omega arith) (omega arith), entry_past first m (omega arith))
-      ])
+  -- after the first sums were stored, and the cap past them
+  module _ (line past : List ℕ) (inside : length first ≤ length line)
+      (filled : past ≡ replicate (length (part line (length first) (length line - length first))) cap) where
+    abbrev row_begun : List ℕ
+    row_begun = put_mid (length first) (length line - length first) line past
+
+    past_is : past ≡ replicate (length line - length first) cap
+    past_is = filled ∙ ap (λ n. replicate n cap) (length_part line (length first) (length line - length first) (omega arith))
+
+    pub row_long : length row_begun ≡ length line
+    row_long = rw past_is (search (rules, places))
+
+    pub row_begins : {x : ℕ} → 0 < length second → x ≡ get_or second 0 0 → Begun first x line → LeastBefore 1 row_begun
+    unfolding running_min
+    row_begins some hx begun m h =
+        let one : min 1 (m + 1) ≡ 1 = omega arith in
+        let all : m - 0 ≡ m = omega arith in
+        let sums = length-take-le (length first) line inside in
+        rw (one, all)
+        (elim (dec_lt m (length first)) [
+          | yes l ↦
+              get_or_append_left (take (length first) line) _ 0 m (omega arith)
+              ∙ get_or-take (length first) line m 0 l
+              ∙ omega (arith, begun m l, entry_inside first m l, entry_inside second 0 some)
+          | no l ↦
+              get_or-append_right (take (length first) line) _ (length first) m 0 sums (omega arith)
+              ∙ rw past_is (get_or_append_left (replicate (length line - length first) cap) _ 0 (m - length first) (rw length-replicate (omega (arith, row_long))))
+              ∙ get_or-replicate (length line - length first) (m - length first) cap 0 (omega (arith, row_long))
+              ∙ omega (arith, entry_past first m (omega arith))
+        ])
 
   pub row_turns : (r end : ℕ) (line after : List ℕ) {x : ℕ} → length after ≡ length line → r < length second → x ≡ get_or second r 0
       → end ≡ min (length first) (length line - r) → LeastBefore r line → Lowered line first end r x after → LeastBefore (r + 1) after
@@ -127,10 +124,8 @@ module _ (first second : List ℕ) where
       → line ≡ map (joined_best first second) (range 0 w)
   unfolding joined_best
   row_ends r w line long all so_far =
-      sym (take_all w line (omega arith))
-      ∙ front_is_entries w line (omega arith)
-      ∙ same_on_range _ _ 0 w
-      (λ m _ k.
+      by_entries (joined_best first second) line w long
+      (λ m k.
       so_far m (omega arith)
       ∙ running_min_leaves_out cap (joined_split first second m) (min r (m + 1)) (m + 1) (omega arith) (λ i p q. omega (arith, entry_past second i (omega arith))))
 
@@ -148,14 +143,6 @@ joined_best_swapped first second m =
 pub joined_swapped : (first second : List ℕ) (w : ℕ)
     → map (joined_best first second) (range 0 w) ≡ map (joined_best second first) (range 0 w)
 joined_swapped first second w = same_on_range _ _ 0 w (λ m _ _. joined_best_swapped first second m)
-
--- ---- a line stored at the front of an array is what its front holds
-
-pub own_taken : (l : List ℕ) (f : ℕ → ℕ) (own : ℕ) → own ≤ length l → take own (sets l 0 (map f (range 0 own))) ≡ map f (range 0 own)
-own_taken l f own h = front_stored l (map f (range 0 own)) own (length_of_range f 0 own) h
-
-pub rest_taken : (l rest : List ℕ) → length rest ≤ length l → take (length rest) (sets l 0 rest) ≡ rest
-rest_taken l rest h = front_stored l rest (length rest) refl h
 
 -- ---- the line of a row of w entries, from its node's own line and its later siblings'
 

@@ -1,6 +1,6 @@
 -- One line of the plan's table: entry n is the least cost of a row of siblings with n caches, from the lines of its parts.
 use Rattle.std.specs.Prelude.{◌≡◌, Bool, true, false, cond, List, ◌⊎◌, ℕ, zero, suc, ◌+◌, ◌-◌, ◌≤◌, ◌<◌, min, length, get_or}
-use Rattle.laws.specs.Lists.{bit, part}
+use Rattle.laws.specs.Lists.{bit}
 use Rattle.model.specs.File.{most_budget}
 use Rattle.best_rows.specs.Least.{running_min}
 use Rattle.best_rows.specs.Best.{cap, cost_if, own_choice, node_best, split, later, row_best}
@@ -53,15 +53,6 @@ module _ (cached uncached : List ℕ) (member other : ℕ) where
   unfoldable pub line_own : ℕ → ℕ
   line_own n = min cap (line_node n)
 
--- the node's line, s[at .. at + end], in one array with its children's lines, s[cached .. cached + w] and s[uncached .. uncached + w],
--- which have no entry in common with it
-pub record OwnPlace (s : List ℕ) (at end cached uncached w member other : ℕ) : Type 0 where
-  pub ends : (0 < end) × (end ≤ w + 1)
-  pub within : (at + end ≤ length s) × (cached + w ≤ length s) × (uncached + w ≤ length s)
-  pub cached_apart : (cached + w ≤ at) ⊎ (at + end ≤ cached)
-  pub uncached_apart : (uncached + w ≤ at) ⊎ (at + end ≤ uncached)
-  pub parts : NodeParts (part s cached w) (part s uncached w) member other
-
 -- ---- a row that begins with this node, `rest` being the line of its later siblings
 
 pub record LineParts (cached uncached rest : List ℕ) (member other : ℕ) : Type 0 where
@@ -100,11 +91,6 @@ joined_best first second m = running_min cap (joined_split first second m) (m + 
 -- for each entry of `other`, the same entry of l is other[n] + x, or the cap where that is not smaller
 abbrev pub Begun : List ℕ → ℕ → List ℕ → Type 0
 Begun other x l = (n : ℕ) → n < length other → get_or l n 0 ≡ min cap (get_or other n 0 + x)
-
--- `after` is `before` below `end`, and from there on it is the cap
-pub record Cleared (before : List ℕ) (end : ℕ) (after : List ℕ) : Type 0 where
-  pub kept : (n : ℕ) → n < end → get_or after n 0 ≡ get_or before n 0
-  pub none : (n : ℕ) → end ≤ n → n < length before → get_or after n 0 ≡ cap
 
 -- `after` is `before`, but for each n < end entry r + n is other[n] + x where that is smaller
 pub record Lowered (before other : List ℕ) (end r x : ℕ) (after : List ℕ) : Type 0 where

@@ -1,16 +1,16 @@
 -- The pass from the last node up: each node becomes the first child of its parent, before the one that was.
 use mathlib.Core.Path.{◌≡◌, refl, sym, ◌∙◌}
 use mathlib.Core.List.{List}
-use Prim.Native.Nat.{ℕ, zero, suc, ◌+◌, ◌*◌, ◌-◌, ◌≤◌, ◌<◌}
+use Prim.Native.Nat.{ℕ, zero, suc, ◌*◌, ◌-◌, ◌≤◌, ◌<◌}
 use native.Mathlib.Decide.{ℕ_discrete}
 use native.Mathlib.Omega.{arith}
 use lib.ListN.{length, set, length-set}
-use Rattle.laws.proofs.Fronts.{front_only_none, front_only_set, front_only_then}
+use Rattle.laws.proofs.Fronts.{front_only_none, front_only_set}
 use Rattle.model.specs.File.{Tree, tree_of}
 use Rattle.best_rows.specs.TreeRows.{first_after, nodes_after, next_sibling}
 use Rattle.best_rows.proofs.TreeRows.{first_after_none, first_after_child, first_after_other, first_child_kept}
-use Rattle.node_words.specs.Words.{node_words, word_at, distance_word, depth_word, child_word, sibling_word, word_of, HasNode, NodeRoom, SiteRoom, NodeWords, with_pair, Measured, Unlinked, Linked, LinksOnly}
-use Rattle.node_words.proofs.Words.{noted_none, noted_next, word_same, other_node, other_word, room_sound, room_parent}
+use Rattle.node_words.specs.Words.{node_words, word_at, distance_word, depth_word, child_word, sibling_word, word_of, NodeRoom, SiteRoom, NodeWords, Measured, Unlinked, Linked, LinksOnly}
+use Rattle.node_words.proofs.Words.{word_same, other_node, other_word, room_sound, room_parent}
 
 -- ---- distances and depths stay
 
@@ -25,24 +25,6 @@ module _ (n : ℕ) where
         front = front_only_set (node_words * n) (word_at v f) x (omega arith) o.front;
         measures = λ u g p. other_word r v f x u g (λ e. omega arith) l (omega arith) ∙ o.measures u g p;
       }
-
-  pub links_only_then : {s r l : List ℕ} → LinksOnly n s r → LinksOnly n r l → LinksOnly n s l
-  links_only_then o q =
-      record { front = front_only_then (node_words * n) o.front q.front; measures = λ v f h. q.measures v f h ∙ o.measures v f h }
-
--- ---- no node has a child or a sibling
-
-pub cleared_none : (s : List ℕ) → Unlinked s 0
-cleared_none = noted_none child_word (λ _. 0) (λ _. 0)
-
--- one node more
-pub cleared_next : {n v : ℕ} {o s r : List ℕ} → v < n → HasNode s v → Unlinked s v → LinksOnly n o s → r ≡ with_pair s v child_word 0 0
-    → Unlinked r (v + 1) × LinksOnly n o r
-cleared_next {n = n} {v = v} h k c o e =
-    rw e (
-      noted_next child_word (λ _. 0) (λ _. 0) (omega arith) k c,
-      links_only_set n v sibling_word 0 h (omega arith) (omega arith) (links_only_set n v child_word 0 h (omega arith) (omega arith) o),
-    )
 
 -- ---- the nodes after a node are linked
 

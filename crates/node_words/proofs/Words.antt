@@ -1,21 +1,19 @@
 -- Laws of the words of nodes: what a store changes, what an accepted file says of its nodes, and what the words say of a node.
 use mathlib.Core.Path.{◌≡◌, sym, ◌∙◌}
 use mathlib.Core.List.{List}
-use Prim.Native.Nat.{ℕ, zero, suc, ◌+◌, ◌*◌, ◌≤◌, ◌<◌}
+use Prim.Native.Nat.{ℕ, zero, suc, ◌+◌, ◌*◌, ◌<◌}
 use native.Mathlib.Decide.{ℕ_discrete}
 use native.Mathlib.Omega.{arith}
-use lib.ListN.{length, take, set, length-set}
+use lib.ListN.{take, set, length-set}
 use lib.Seq.{get_or-set_same, get_or-set_other}
 use Rattle.laws.specs.Fronts.{FrontOnly}
 use Rattle.laws.proofs.Fronts.{same_front_entry}
-use Rattle.model.specs.File.{Tree, tree_of, demand_of, count_of, header_length}
+use Rattle.model.specs.File.{Tree, tree_of, demand_of, count_of}
 use Rattle.model.specs.Accepted.{Sound}
 use Rattle.model.proofs.Routes.{parent_before}
 use Rattle.model.proofs.Accepted.{record_before, accepted_header, accepted_sound}
 use Rattle.fields.specs.Table.{InFile}
-use Rattle.best_rows.specs.TreeRows.{NoneOrChild}
-use Rattle.best_rows.proofs.TreeRows.{first_child_stands, next_sibling_stands}
-use Rattle.node_words.specs.Words.{node_words, word_at, distance_word, depth_word, child_word, sibling_word, word_of, HasNode, NodeRoom, SiteRoom, NodeWords, with_pair, Noted}
+use Rattle.node_words.specs.Words.{node_words, word_at, distance_word, depth_word, child_word, sibling_word, word_of, HasNode, NodeRoom, SiteRoom, NodeWords, Noted}
 
 -- ---- one store
 
@@ -32,6 +30,10 @@ pub other_word : (s : List ℕ) (v f x u g : ℕ) → (g ≡ f → ⊥) → f < 
 other_word s v f x u g n h k = get_or-set_other s (word_at v f) (word_at u g) x 0 (λ e. n (omega arith))
 
 -- ---- two stores, for one node after another
+
+-- the words after a store of words f and f + 1 of node v
+abbrev pub with_pair : List ℕ → ℕ → ℕ → ℕ → ℕ → List ℕ
+with_pair words v f x y = set (set words (word_at v f) x) (word_at v (f + 1)) y
 
 module _ (f : ℕ) (a b : ℕ → ℕ) where
   pub noted_none : (s : List ℕ) → Noted f a b s 0
@@ -66,9 +68,6 @@ module _ {file : List ℕ} {n : ℕ} {s : List ℕ} (r : NodeRoom file n s) wher
 
   pub room_some : 0 < n
   room_some = omega (arith, r.count, room_sound.some)
-
-  pub room_header : header_length ≤ length file
-  room_header = omega (arith, (accepted_header file r.accepted).exact)
 
   pub room_record : {v : ℕ} → v < n → InFile file v
   room_record {v} h =
@@ -105,12 +104,3 @@ node_words_same t s r e w =
   where
     kept : (v f : ℕ) → f < node_words → v < t.count → word_of r v f ≡ word_of s v f
     kept v f k h = same_front_entry (node_words * t.count) r s (word_at v f) (sym e) (omega arith)
-
-module _ (t : Tree) (s : List ℕ) (w : NodeWords t s) (v : ℕ) (h : v < t.count) where
-  -- a first child is none, or a later node whose parent this is
-  pub child_word_stands : NoneOrChild t v v (word_of s v child_word)
-  child_word_stands = rw (w.child v h) (first_child_stands t v)
-
-  -- a next sibling is none, or a later node with the same parent
-  pub sibling_word_stands : 0 < v → NoneOrChild t v (t.parent v) (word_of s v sibling_word)
-  sibling_word_stands p = rw (w.sibling v p h) (next_sibling_stands t v)

@@ -1,10 +1,12 @@
 -- The first 4 × n words of the scratch: for each node its distance, its depth, its first child and its next sibling (0: none).
-use Rattle.std.specs.Prelude.{◌≡◌, List, ℕ, ◌+◌, ◌*◌, ◌≤◌, ◌<◌, length, get_or, set}
+use Rattle.std.specs.Prelude.{◌≡◌, List, ℕ, ◌+◌, ◌*◌, ◌≤◌, ◌<◌, length, get_or}
 use Rattle.laws.specs.Fronts.{FrontOnly}
 use Rattle.model.specs.File.{Tree, count_of}
 use Rattle.model.specs.Tree.{depth, distance}
 use Rattle.model.specs.Rules.{passed, file_verdict}
 use Rattle.best_rows.specs.TreeRows.{first_after, nodes_after, first_child, next_sibling}
+use Rattle.node_words.specs.declared.Word.{Word}
+use Rattle.node_words.specs.declared.Word.TheVariants.{Distance, Depth, Child, Sibling}
 
 -- how many words the scratch holds of each node
 abbrev pub node_words : ℕ
@@ -26,6 +28,12 @@ child_word = 2
 
 abbrev pub sibling_word : ℕ
 sibling_word = 3
+
+abbrev pub word_number : Word → ℕ
+word_number Distance = distance_word
+word_number Depth = depth_word
+word_number Child = child_word
+word_number Sibling = sibling_word
 
 -- word f of node v
 abbrev pub word_of : List ℕ → ℕ → ℕ → ℕ
@@ -56,10 +64,6 @@ pub record NodeWords (t : Tree) (words : List ℕ) : Type 0 where
   pub server : 0 < t.count → word_of words 0 sibling_word ≡ 0
 
 -- ---- while the words are being stored
-
--- the words after a store of words f and f + 1 of node v
-abbrev pub with_pair : List ℕ → ℕ → ℕ → ℕ → ℕ → List ℕ
-with_pair words v f x y = set (set words (word_at v f) x) (word_at v (f + 1)) y
 
 -- words f and f + 1 of each of the first n nodes v are a v and b v
 pub record Noted (f : ℕ) (a b : ℕ → ℕ) (words : List ℕ) (n : ℕ) : Type 0 where

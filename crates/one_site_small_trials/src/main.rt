@@ -11,121 +11,126 @@
 
 ghost use Rattle.std.specs.Prelude.{◌≤◌};
 
-use one_site::WithOrWithout;
-use small_plans::Least;
-use small_trees::SmallTree;
+use one_site::Leasts;
+use small_trees::Nodes;
 use std::io;
-use std::io::{BufWriter, Write};
+use std::io::Write;
+use std::ops::Range;
+use tree_file::{Refusal, Rule};
+use tree_sequence::Case;
 
 // ---- the two totals
 
-// What stands for the total of no set.
-const NO_SET: u64 = 18_446_744_073_709_551_615;
-
-// The least totals with a node and without it.
-#[derive(Clone, Copy)]
+// The least totals with a node and without it, each if there is such a set.
+#[derive(Clone, Copy, Default)]
 struct Both {
-    with: u64,
-    without: u64,
+    with: Option<u64>,
+    without: Option<u64>,
 }
 
-fn answered(answer: WithOrWithout) -> Both {
-    match answer {
-        WithOrWithout::Both(with, without) => Both {
-            with: with.0,
-            without: without.0,
-        },
-        WithOrWithout::Without(without) => Both {
-            with: NO_SET,
-            without: without.0,
-        },
-        WithOrWithout::Refused(_, _) => Both {
-            with: NO_SET,
-            without: NO_SET,
-        },
+impl From<Leasts> for Both {
+    fn from(leasts: Leasts) -> Both {
+        Both {
+            with: leasts.with.map(|total| total.0),
+            without: Some(leasts.without.0),
+        }
     }
 }
 
-fn total_of(least: Least) -> u64 {
-    match least {
-        Least::Total(total) => total,
-        Least::NoSet => NO_SET,
-    }
+// The answer with this scratch, and no totals where it is a refusal.
+fn both_totals(case: &Case, v: usize, b: usize, scratch: &mut [u64]) -> Both {
+    one_site::with_or_without(case.file(), v, b, scratch)
+        .map(Both::from)
+        .unwrap_or_default()
 }
 
 // Both totals against the reference.
 fn check_least<W: Write>(
     out: &mut W,
-    i: u64,
-    tree: SmallTree,
+    case: &Case,
     v: usize,
     b: usize,
     both: Both,
 ) -> io::Result<()> {
-    if both.with != total_of(small_plans::least_with(tree, v, b)) {
-        trial_text::print_difference(out, i, v, b" least total with the node")?;
+    if both.with != small_plans::least_with(&case.tree, v, b) {
+        trial_text::print_difference(out, case.number, v, b" least total with the node")?;
     }
-    if both.without != total_of(small_plans::least_without(tree, v, b)) {
-        trial_text::print_difference(out, i, v, b" least total without the node")?;
+    if both.without != small_plans::least_without(&case.tree, v, b) {
+        trial_text::print_difference(out, case.number, v, b" least total without the node")?;
     }
     Ok(())
 }
 
 // ---- beside the plan
 
+// The buffers of the plan call.
+#[derive(Drop)]
+struct Plans {
+    totals: [u64; 7],
+    rows: [u16; 42],
+}
+
 // The plan at a budget.
 #[derive(Clone, Copy)]
 struct Plan {
-    set: u8,
-    total: u64,
+    set: Nodes,
+    total: Option<u64>,
 }
 
-fn plan_at(b: usize, k: usize, totals: &[u64], rows: &[u16]) -> Plan
-    requires { (b ≤ 6) × (k ≤ 6) }
-{
-    Plan {
-        set: small_trees::set_of(trial_buffers::row_of(rows, b, k)),
-        total: trial_buffers::total_at(totals, b),
+impl Plans {
+    fn at(&self, case: &Case, b: usize) -> Plan
+        requires { b ≤ 6 }
+    {
+        Plan {
+            set: Nodes::of_row(trial_buffers::row_of(&self.rows, b, case.budget)),
+            total: self.totals.get(b).copied(),
+        }
     }
 }
 
-fn lesser(both: Both) -> u64 {
-    if both.with < both.without {
-        both.with
-    } else {
-        both.without
-    }
+// Is one total less than the other? No total is more than any.
+fn is_less(one: Option<u64>, other: Option<u64>) -> bool {
+    one.is_some_and(|one| other.is_none_or(|other| one < other))
 }
 
 fn check_beside_plan<W: Write>(
     out: &mut W,
-    i: u64,
+    case: &Case,
     v: usize,
     both: Both,
     plan: Plan,
 ) -> io::Result<()> {
-    if lesser(both) != plan.total {
-        trial_text::print_difference(out, i, v, b" lesser total")?;
+    let with_less = is_less(both.with, both.without);
+    let lesser = if with_less { both.with } else { both.without };
+    if lesser != plan.total {
+        trial_text::print_difference(out, case.number, v, b" lesser total")?;
     }
-    if small_trees::has(plan.set, v) {
-        if both.without < both.with {
-            trial_text::print_difference(out, i, v, b" larger total with a node of the plan")?;
+    if plan.set.has(v) {
+        if is_less(both.without, both.with) {
+            trial_text::print_difference(
+                out,
+                case.number,
+                v,
+                b" larger total with a node of the plan",
+            )?;
         }
-    } else {
-        if both.with < both.without {
-            trial_text::print_difference(out, i, v, b" smaller total with a node not of the plan")?;
-        }
+    } else if with_less {
+        trial_text::print_difference(
+            out,
+            case.number,
+            v,
+            b" smaller total with a node not of the plan",
+        )?;
     }
     Ok(())
 }
 
 // ---- the counts
 
-// How many trees and pairs of a node and a budget were gone through, how many of these pairs have no set with the node, how many
-// have two equal totals, in how many the plan has the node, and how many refusals there were.
-#[derive(Clone, Copy)]
+// How many pairs of a node and a budget were gone through, how many of these have no set with the node, how many have two equal
+// totals, in how many the plan has the node, and how many refusals there were.
+#[derive(Default, Drop)]
 struct Count {
-    trees: u64,
     pairs: u64,
     none: u64,
     ties: u64,
@@ -133,271 +138,149 @@ struct Count {
     refusals: u64,
 }
 
-const NO_COUNT: Count = Count {
-    trees: 0,
-    pairs: 0,
-    none: 0,
-    ties: 0,
-    members: 0,
-    refusals: 0,
-};
-
-fn one_if(is: bool) -> u64 {
-    if is { 1 } else { 0 }
-}
-
-// A pair more.
-fn with_pair(so_far: Count, both: Both, member: bool) -> Count {
-    Count {
-        trees: so_far.trees,
-        pairs: std::num::wrapping_add_u64(so_far.pairs, 1),
-        none: std::num::wrapping_add_u64(so_far.none, one_if(both.with == NO_SET)),
-        ties: std::num::wrapping_add_u64(so_far.ties, one_if(both.with == both.without)),
-        members: std::num::wrapping_add_u64(so_far.members, one_if(member)),
-        refusals: so_far.refusals,
+impl Count {
+    // A pair more.
+    fn add_pair(&mut self, both: Both, member: bool) {
+        self.pairs = self.pairs.wrapping_add(1);
+        self.none = self.none.wrapping_add(u64::from(both.with.is_none()));
+        self.ties = self.ties.wrapping_add(u64::from(both.with == both.without));
+        self.members = self.members.wrapping_add(u64::from(member));
     }
-}
 
-// A tree more, with so many refusals.
-fn with_tree(so_far: Count, refusals: u64) -> Count {
-    Count {
-        trees: std::num::wrapping_add_u64(so_far.trees, 1),
-        pairs: so_far.pairs,
-        none: so_far.none,
-        ties: so_far.ties,
-        members: so_far.members,
-        refusals: std::num::wrapping_add_u64(so_far.refusals, refusals),
+    // A refusal more.
+    fn add_refusal(&mut self) {
+        self.refusals = self.refusals.wrapping_add(1);
     }
 }
 
 // ---- each node at each budget
 
-fn check_pair<W: Write>(
-    out: &mut W,
-    i: u64,
-    tree: SmallTree,
-    v: usize,
-    b: usize,
-    plan: Plan,
-    file: &[u8],
-    scratch: &mut [u64],
-    so_far: Count,
-) -> io::Result<Count> {
-    let both = answered(one_site::with_or_without(file, v, b, scratch));
-    check_least(out, i, tree, v, b, both)?;
-    check_beside_plan(out, i, v, both, plan)?;
-    Ok(with_pair(so_far, both, small_trees::has(plan.set, v)))
-}
-
-fn check_nodes<W: Write>(
-    out: &mut W,
-    i: u64,
-    tree: SmallTree,
-    b: usize,
-    plan: Plan,
-    file: &[u8],
-    scratch: &mut [u64],
-    so_far: Count,
-) -> io::Result<Count> {
-    let mut count = so_far;
-    let mut v = 1;
-    while v < tree.nodes {
-        count = check_pair(out, i, tree, v, b, plan, file, scratch, count)?;
-        v += 1;
-    }
-    Ok(count)
-}
-
-// Each budget from 0 to k, beside the plan in these buffers. The scratch is as the call before left it.
-fn check_budgets<W: Write>(
-    out: &mut W,
-    i: u64,
-    tree: SmallTree,
-    k: usize,
-    file: &[u8],
-    scratch: &mut [u64],
-    totals: &[u64],
-    rows: &[u16],
-    so_far: Count,
-) -> io::Result<Count>
-    requires { k ≤ 6 }
-{
-    let mut count = so_far;
-    let mut b = 0;
-    while b <= k {
-        count = check_nodes(
-            out,
-            i,
-            tree,
-            b,
-            plan_at(b, k, totals, rows),
-            file,
-            scratch,
-            count,
-        )?;
-        b += 1;
-    }
-    Ok(count)
-}
-
-// Lends just the words of scratch that are asked.
-fn check_answers<W: Write>(
-    out: &mut W,
-    i: u64,
-    tree: SmallTree,
-    k: usize,
-    file: &[u8],
-    so_far: Count,
-) -> io::Result<Count>
-    requires { k ≤ 6 }
-{
-    let words = small_plans::scratch_words(tree);
+// Lends just the words of scratch that are asked, as the call before left them.
+fn check_answers<W: Write>(out: &mut W, case: &Case, count: &mut Count) -> io::Result<()> {
+    let words = small_plans::scratch_words(&case.tree);
     let mut scratch = [7u64; 300];
-    let mut totals = [7u64; 7];
-    let mut rows = [7u16; 42];
-    optimum::plan(file, &mut scratch, &mut totals, &mut rows);
-    check_budgets(
-        out,
-        i,
-        tree,
-        k,
-        file,
-        &mut scratch[0..words],
-        &totals,
-        &rows,
-        so_far,
-    )
+    let mut plans = Plans {
+        totals: [7; 7],
+        rows: [7; 42],
+    };
+    let _ = optimum::plan(
+        case.file(),
+        &mut scratch,
+        &mut plans.totals,
+        &mut plans.rows,
+    );
+    for b in 0..=case.budget {
+        let plan = plans.at(case, b);
+        for v in 1..case.tree.nodes {
+            let both = both_totals(case, v, b, &mut scratch[..words]);
+            check_least(out, case, v, b, both)?;
+            check_beside_plan(out, case, v, both, plan)?;
+            count.add_pair(both, plan.set.has(v));
+        }
+    }
+    Ok(())
 }
 
 // ---- refusals, and the scratch beyond the words asked
 
-// Is the call refused by this rule?
-fn is_refused(answer: WithOrWithout, rule: u8) -> bool {
-    match answer {
-        WithOrWithout::Refused(first, record) => { if first == rule { record == 0 } else { false } }
-        _ => false,
-    }
-}
-
 // A refusal by this rule, which leaves the scratch as it was.
 fn check_refusal<W: Write>(
     out: &mut W,
-    i: u64,
-    file: &[u8],
+    case: &Case,
     v: usize,
     b: usize,
     scratch: &mut [u64],
-    rule: u8,
+    rule: Rule,
+    count: &mut Count,
 ) -> io::Result<()> {
-    if !is_refused(one_site::with_or_without(file, v, b, scratch), rule) {
-        trial_text::print_difference(out, i, v, b" refusal")?;
+    let refusal = one_site::with_or_without(case.file(), v, b, scratch).err();
+    if refusal != Some(Refusal { rule, record: 0 }) {
+        trial_text::print_difference(out, case.number, v, b" refusal")?;
     }
     if !trial_buffers::all_from(scratch, 0, 7) {
-        trial_text::print_difference(out, i, v, b" scratch of a refusal")?;
+        trial_text::print_difference(out, case.number, v, b" scratch of a refusal")?;
     }
+    count.add_refusal();
     Ok(())
 }
 
 // The nodes next to those of the tree, one of them with no scratch: rule 16 comes before rule 13.
-fn check_wrong_nodes<W: Write>(
-    out: &mut W,
-    i: u64,
-    tree: SmallTree,
-    file: &[u8],
-) -> io::Result<()> {
+fn check_wrong_nodes<W: Write>(out: &mut W, case: &Case, count: &mut Count) -> io::Result<()> {
     let mut scratch = [7u64; 300];
-    check_refusal(out, i, file, 0, 0, &mut scratch, 16)?;
-    check_refusal(out, i, file, tree.nodes, 0, &mut scratch, 16)?;
-    check_refusal(out, i, file, 0, 0, &mut scratch[0..0], 16)
+    check_refusal(out, case, 0, 0, &mut scratch, Rule::Site, count)?;
+    check_refusal(
+        out,
+        case,
+        case.tree.nodes,
+        0,
+        &mut scratch,
+        Rule::Site,
+        count,
+    )?;
+    check_refusal(out, case, 0, 0, &mut scratch[..0], Rule::Site, count)
 }
 
-// The budget above k, and one word less than is asked.
-fn check_wrong_numbers<W: Write>(
-    out: &mut W,
-    i: u64,
-    tree: SmallTree,
-    k: usize,
-    file: &[u8],
-) -> io::Result<()>
-    requires { k ≤ 6 }
-{
+// The budget above the tree's, and one word less than is asked.
+fn check_wrong_numbers<W: Write>(out: &mut W, case: &Case, count: &mut Count) -> io::Result<()> {
     let mut scratch = [7u64; 300];
-    let words = small_plans::scratch_words(tree);
-    check_refusal(out, i, file, 1, k + 1, &mut scratch, 16)?;
-    if 0 < words {
-        check_refusal(out, i, file, 1, k, &mut scratch[0..words - 1], 13)?;
+    check_refusal(
+        out,
+        case,
+        1,
+        case.budget + 1,
+        &mut scratch,
+        Rule::Site,
+        count,
+    )?;
+    match small_plans::scratch_words(&case.tree).checked_sub(1) {
+        Some(words) => {
+            check_refusal(
+                out,
+                case,
+                1,
+                case.budget,
+                &mut scratch[..words],
+                Rule::Scratch,
+                count,
+            )
+        }
+        None => Ok(()),
     }
-    Ok(())
 }
 
 // The words beyond those asked stay as they were.
-fn check_beyond<W: Write>(
-    out: &mut W,
-    i: u64,
-    tree: SmallTree,
-    k: usize,
-    file: &[u8],
-) -> io::Result<()> {
+fn check_beyond<W: Write>(out: &mut W, case: &Case) -> io::Result<()> {
+    let k = case.budget;
     let mut scratch = [7u64; 300];
-    check_least(
-        out,
-        i,
-        tree,
-        1,
-        k,
-        answered(one_site::with_or_without(file, 1, k, &mut scratch)),
-    )?;
-    if !trial_buffers::all_from(&scratch, small_plans::scratch_words(tree), 7) {
-        trial_text::print_difference(out, i, k, b" scratch beyond")?;
+    let both = both_totals(case, 1, k, &mut scratch);
+    check_least(out, case, 1, k, both)?;
+    if !trial_buffers::all_from(&scratch, small_plans::scratch_words(&case.tree), 7) {
+        trial_text::print_difference(out, case.number, k, b" scratch beyond")?;
     }
     Ok(())
 }
 
-// Answers how many refusals there were.
-fn check_borders<W: Write>(
-    out: &mut W,
-    i: u64,
-    tree: SmallTree,
-    k: usize,
-    file: &[u8],
-) -> io::Result<u64>
-    requires { k ≤ 6 }
-{
-    check_wrong_nodes(out, i, tree, file)?;
-    if tree.nodes < 2 {
-        return Ok(3);
+fn check_borders<W: Write>(out: &mut W, case: &Case, count: &mut Count) -> io::Result<()> {
+    check_wrong_nodes(out, case, count)?;
+    if 2 <= case.tree.nodes {
+        check_wrong_numbers(out, case, count)?;
+        check_beyond(out, case)?;
     }
-    check_wrong_numbers(out, i, tree, k, file)?;
-    check_beyond(out, i, tree, k, file)?;
-    Ok(5)
+    Ok(())
 }
 
 // ---- the trees
 
-fn check_tree<W: Write>(out: &mut W, i: u64, tree: SmallTree, so_far: Count) -> io::Result<Count> {
-    let k = small_trees::budget_of(tree);
-    let mut space = [0u8; 87];
-    let n = small_trees::write_file(tree, &mut space);
-    let file = &space[0..n];
-    let refusals = check_borders(out, i, tree, k, file)?;
-    check_answers(out, i, tree, k, file, with_tree(so_far, refusals))
+fn check_tree<W: Write>(out: &mut W, case: &Case, count: &mut Count) -> io::Result<()> {
+    check_borders(out, case, count)?;
+    check_answers(out, case, count)
 }
 
-// The trees of these numbers.
-fn check_trees<W: Write>(out: &mut W, first: u64, end: u64) -> io::Result<Count> {
-    let mut count = NO_COUNT;
-    let mut i = first;
-    while i < end {
-        if tree_sequence::has_tree(i) {
-            count = check_tree(out, i, tree_sequence::nth_tree(i), count)?;
-        }
-        i += 1;
-    }
-    Ok(count)
-}
-
-fn print_count<W: Write>(out: &mut W, what: &[u8], count: Count) -> io::Result<()> {
-    trial_text::print_count(out, what, count.trees)?;
+// The trees of these numbers, with lines of how many there are and what was counted.
+fn check_trees<W: Write>(out: &mut W, numbers: Range<u64>, what: &[u8]) -> io::Result<()> {
+    let mut count = Count::default();
+    let trees = tree_sequence::each_tree(numbers, |case| check_tree(out, case, &mut count))?;
+    trial_text::print_count(out, what, trees)?;
     trial_text::print_count(out, b"pairs of a node and a budget", count.pairs)?;
     trial_text::print_count(out, b"pairs with no set that has the node", count.none)?;
     trial_text::print_count(out, b"pairs with two equal totals", count.ties)?;
@@ -406,10 +289,5 @@ fn print_count<W: Write>(out: &mut W, what: &[u8], count: Count) -> io::Result<(
 }
 
 fn main(rt: HostRuntime) -> io::Result<()> {
-    let mut out = BufWriter::new(rt.alloc(), io::writer(&rt))?;
-    let trees = check_trees(&mut out, 0, tree_sequence::TREES)?;
-    print_count(&mut out, b"trees", trees)?;
-    let patterns = check_trees(&mut out, tree_sequence::TREES, tree_sequence::END)?;
-    print_count(&mut out, b"patterns of closed nodes", patterns)?;
-    out.flush()
+    tree_sequence::check_parts(&rt, check_trees)
 }

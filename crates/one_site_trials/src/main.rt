@@ -5,81 +5,40 @@
 // were. Before the call each word of the scratch is 5432123.
 #![tactic(auto)]
 
-use one_site::WithOrWithout;
+use one_site::Leasts;
 use std::io;
-use std::io::{BufWriter, Write};
-use units::Total;
+use std::io::Write;
+use tree_file::Refusal;
+use trial_text::Case;
 
-fn print_total<W: Write>(out: &mut W, what: &[u8], total: Total) -> io::Result<()> {
-    out.write_all(what)?;
-    trial_text::print_number(out, total.0)
-}
-
-fn print_answer<W: Write>(out: &mut W, answer: WithOrWithout) -> io::Result<()> {
+fn print_answer<W: Write>(out: &mut W, answer: Result<Leasts, Refusal>) -> io::Result<()> {
     match answer {
-        WithOrWithout::Both(with, without) => {
-            print_total(out, b" with", with)?;
-            print_total(out, b" without", without)?;
+        Ok(Leasts { with, without }) => {
+            match with {
+                Some(total) => write!(out, " with {}", total.0)?,
+                None => out.write_all(b" none")?,
+            }
+            write!(out, " without {}", without.0)
         }
-        WithOrWithout::Without(without) => {
-            out.write_all(b" none")?;
-            print_total(out, b" without", without)?;
-        }
-        WithOrWithout::Refused(rule, record) => {
-            trial_text::print_refused(out, rule, record)?;
-        }
+        Err(refusal) => trial_text::print_refusal(out, refusal),
     }
-    Ok(())
 }
 
-fn answer<W: Write>(
-    out: &mut W,
-    file: &[u8],
-    node: usize,
-    b: usize,
-    beyond: usize,
-    scratch: &mut [u64],
-) -> io::Result<()> {
-    print_answer(out, one_site::with_or_without(file, node, b, scratch))?;
-    trial_text::print_kept(out, scratch, beyond, 5432123)
-}
-
-// Lends as much of the scratch as the line says.
-fn answer_file<W: Write>(out: &mut W, line: &[u8], file: &[u8]) -> io::Result<()> {
-    let mut scratch = trial_text::scratch_room(5432123);
-    let a = trial_text::entries(line, 3, 40960);
-    let beyond = trial_text::entries(line, 4, 40960);
-    answer(
+fn answer<W: Write>(out: &mut W, case: Case<'_>) -> io::Result<()> {
+    trial_text::print_name(out, case)?;
+    let node = case.number(1) as usize;
+    let budget = case.number(2) as usize;
+    let mut scratch = case.lent(3, trial_text::SCRATCH_ROOM, trial_text::SCRATCH_WORD)?;
+    let beyond = case.number_within(4, trial_text::SCRATCH_ROOM);
+    let file = case.file(5)?;
+    print_answer(
         out,
-        file,
-        trial_text::number_of(line, 1),
-        trial_text::number_of(line, 2),
-        beyond,
-        &mut scratch[0..a],
-    )
-}
-
-fn answer_line<W: Write>(out: &mut W, line: &[u8]) -> io::Result<()> {
-    trial_text::print_name(out, line)?;
-    let mut file = trial_text::file_room();
-    let n = trial_text::file_of(line, 5, &mut file);
-    answer_file(out, line, &file[0..n])?;
+        one_site::with_or_without(&file, node, budget, &mut scratch),
+    )?;
+    trial_text::print_kept(out, &scratch, beyond, trial_text::SCRATCH_WORD)?;
     trial_text::end_line(out)
 }
 
-fn answer_lines<W: Write>(out: &mut W, text: &[u8]) -> io::Result<()> {
-    let mut at = 0;
-    while at < text.len() {
-        answer_line(out, trial_text::up_to(text, at, b'\n'))?;
-        at = trial_text::past(text, at, b'\n');
-    }
-    Ok(())
-}
-
 fn main(rt: HostRuntime) -> io::Result<()> {
-    let mut text = trial_text::text_room();
-    let n = first_bytes::read_into(&mut rt.stdin(), &mut text)?;
-    let mut out = BufWriter::new(rt.alloc(), io::writer(&rt))?;
-    answer_lines(&mut out, &text[..n])?;
-    out.flush()
+    trial_text::answer_cases(&rt, answer)
 }

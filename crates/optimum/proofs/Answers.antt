@@ -1,6 +1,6 @@
 -- The plan call, answer by answer: a refusal writes nothing, and what is written is the plan.
 use mathlib.Core.Path.{◌≡◌, refl, ◌∙◌}
-use mathlib.Core.Bool.{Bool, true, false, ◌&&◌}
+use mathlib.Core.Bool.{Bool, true, ◌&&◌}
 use mathlib.Core.List.{List}
 use Prim.Native.Nat.{ℕ, suc, ◌+◌, ◌*◌, ◌≤◌}
 use native.Mathlib.Nat.{mul-le-mul}
@@ -14,11 +14,16 @@ use Rattle.laws.specs.Fronts.{FrontOnly}
 use Rattle.laws.proofs.Bools.{both}
 use Rattle.laws.proofs.Stores.{sets_front}
 use Rattle.model.specs.File.{budget_of, most_budget}
-use Rattle.model.specs.Rules.{passed, broken, scratch_words}
+use Rattle.model.specs.Rules.{passed, broken, ask, scratch_words}
 use Rattle.model.specs.Calls.{answered, refused, answer, after, plan_totals, plan_rows, PlanMemory, plan_buffers_long, plan_verdict, PlanCall}
 use Rattle.model.proofs.Written.{length_plan_totals, length_plan_rows}
 use Rattle.fields.specs.declared.Tree as code
+use Rattle.std.specs.Prelude.{Result, ⊤}
+use Rattle.std.specs.Result.{IsErrAnd}
+use Rattle.tree_file.specs.declared.rules.Refusal.{Refusal}
+use Rattle.tree_file.specs.Refusals.{broken_by, verdict_of}
 use Rattle.tree_file.specs.Checks.{sizes_of}
+use Rattle.tree_file.proofs.Rulings.{refused_as}
 use Rattle.lent.specs.Lent.{lent_verdict}
 use Rattle.lent.proofs.Asked.{lent_told, refused_before_buffers, buffers_decide, totals_long_lem}
 use Rattle.optimum.specs.Budgets.{Buffers}
@@ -36,14 +41,15 @@ module _ {file totals rows : List ℕ} (l : Buffers file totals rows) where
 -- ---- each answer
 
 module _ (file : List ℕ) (memory : PlanMemory) where
-  refused_whole : {q i : ℕ} → broken q i ≡ plan_verdict file memory → PlanCall file memory (broken q i) memory
-  refused_whole e = record { verdict = e; scratch_after = refl; totals_after = refl; rows_after = refl }
+  -- a refusal changes nothing
+  pub plan_refused : (r : Result ⊤ Refusal) (e : Refusal) → IsErrAnd r (λ y. y ≡ e) → broken_by e ≡ plan_verdict file memory
+      → PlanCall file memory (verdict_of r) memory
+  plan_refused r e h k = rw (refused_as r e h refl) (record { verdict = k; scratch_after = refl; totals_after = refl; rows_after = refl })
 
   -- the rules before rule 14 refuse
-  pub plan_refused_lem : {q i : ℕ} → refused q i ≡ answer (lent_verdict file (length memory.scratch)) (sizes_of file)
-      → PlanCall file memory (broken q i) memory
+  pub plan_before_buffers : {q i : ℕ} → refused q i ≡ answer (lent_verdict file (length memory.scratch)) (sizes_of file) → broken q i ≡ plan_verdict file memory
   unfolding plan_verdict
-  plan_refused_lem e = refused_whole (refused_before_buffers file memory.scratch (plan_buffers_long file memory.totals memory.rows) e)
+  plan_before_buffers e = refused_before_buffers file memory.scratch (plan_buffers_long file memory.totals memory.rows) e
 
   module _ {sizes : code.Tree} (e : answered sizes ≡ answer (lent_verdict file (length memory.scratch)) (sizes_of file)) where
     -- rule 14, as it is asked with the sizes found
@@ -53,9 +59,9 @@ module _ (file : List ℕ) (memory : PlanMemory) where
     long_is : {b : Bool} → both_long ≡ b → plan_buffers_long file memory.totals memory.rows ≡ b
     long_is h = rw (lent_told file e).2 at h
 
-    pub plan_short : both_long ≡ false → PlanCall file memory (broken 14 0) memory
+    pub plan_asks_buffers : ask 14 0 both_long ≡ plan_verdict file memory
     unfolding plan_verdict
-    plan_short h = refused_whole (buffers_decide file memory.scratch _ e (long_is h))
+    plan_asks_buffers = buffers_decide file memory.scratch _ e (long_is refl)
 
     module _ (h : both_long ≡ true) where
       pub plan_long_lem : Buffers file memory.totals memory.rows

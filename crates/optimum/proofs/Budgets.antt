@@ -1,11 +1,13 @@
 -- From the line of the server's row to the plan: how many caches each budget has, its total and its row.
-use mathlib.Core.Path.{◌≡◌, refl, sym, ◌∙◌}
+use mathlib.Core.Path.{◌≡◌, refl, sym, ap, ◌∙◌}
 use mathlib.Core.Bool.{Bool, true, false}
-use mathlib.Core.List.{List}
+use mathlib.Core.List.{List, ◌++◌}
 use Prim.Native.Nat.{ℕ, zero, suc, ◌+◌, ◌*◌, ◌-◌, ◌≤◌, ◌<◌}
 use native.Mathlib.Omega.{arith}
 use lib.Dec.{ltb}
-use lib.ListN.{length, set, replicate}
+use lib.ListN.{length, set, replicate, take, drop}
+use Rattle.std.proofs.lemmas.List.{append_assoc, length-drop, length-take-le, length-replicate, drop-drop}
+use Rattle.std.proofs.lemmas.List.Edits.{sets-eq}
 use lib.Seq.{sets}
 use Rattle.laws.proofs.Numbers.{row_before}
 use Rattle.laws.proofs.Stores.{sets_append, loop_begins, loop_turns}
@@ -25,7 +27,8 @@ use Rattle.best_rows.proofs.Optimum.{optimum_found}
 use Rattle.best_rows.proofs.Table.{length_best_nodes}
 use Rattle.node_words.specs.Words.{word_of, child_word}
 use Rattle.lines.specs.Line.{entry_of, HoldsBest}
-use Rattle.table.specs.Table.{line_in, Table}
+use Rattle.places.specs.declared.Place.{Place}
+use Rattle.table.specs.Table.{line_in, FullTable}
 use Rattle.table.proofs.Server.{table_sound, table_child, server_line_lem}
 use Rattle.optimum.specs.Walk.{RowToWalk}
 use Rattle.optimum.specs.Budgets.{Budget, Buffers, Planned}
@@ -63,7 +66,7 @@ module _ (t : Tree) (d : Demand) (allows : ℕ → Bool → Bool) where
 
 -- ---- the row of a budget, from the table
 
-module _ {file starts widths s : List ℕ} {k b count : ℕ} (same : k ≡ budget_of file) (table : Table file (may_be (tree_of file)) starts widths s)
+module _ {file : List ℕ} {places : List Place} {s : List ℕ} {k b count : ℕ} (same : k ≡ budget_of file) (table : FullTable file (may_be (tree_of file)) places s)
     (within : b ≤ budget_of file) (counted : count ≡ least_count (tree_of file) (demand_of file) (may_be (tree_of file)) b) where
   -- that many caches of the server's row are the plan, and cost its total
   found : (best_nodes (tree_of file) (demand_of file) (may_be (tree_of file)) (first_child (tree_of file) 0) 0 count ≡ plan (tree_of file) (demand_of file) b)
@@ -75,7 +78,7 @@ module _ {file starts widths s : List ℕ} {k b count : ℕ} (same : k ≡ budge
 
   -- the server's row can have that many caches, and a row of the answer has room for them
   pub row_to_walk_lem : {at : ℕ} {rows : List ℕ} → at + k ≤ length rows
-      → RowToWalk file (may_be (tree_of file)) starts widths s (first_child (tree_of file) 0) 0 count at rows
+      → RowToWalk file (may_be (tree_of file)) places s (first_child (tree_of file) 0) 0 count at rows
   unfolding cap
   row_to_walk_lem room =
       let t = tree_of file in
@@ -99,11 +102,11 @@ module _ {file starts widths s : List ℕ} {k b count : ℕ} (same : k ≡ budge
 
 -- ---- one budget
 
-module _ {file : List ℕ} {k : ℕ} {starts widths s : List ℕ} {b last : ℕ} (r : Budget file k starts widths s b last) where
+module _ {file : List ℕ} {k : ℕ} {places : List Place} {s : List ℕ} {b last : ℕ} (r : Budget file k places s b last) where
   abbrev server_best : ℕ → ℕ
   server_best = best_at (tree_of file) (demand_of file) (may_be (tree_of file)) (first_child (tree_of file) 0) 0
 
-  module _ {l : List ℕ} (f : l ≡ line_in starts widths s (word_of s 0 child_word) 0) where
+  module _ {l : List ℕ} (f : l ≡ line_in places s (word_of s 0 child_word) 0) where
     line_holds : HoldsBest (budget_of file + 1) server_best l
     line_holds = server_line_lem r.table f
 
@@ -135,12 +138,26 @@ module _ {file : List ℕ} {k : ℕ} {starts widths s : List ℕ} {b last : ℕ}
 
 -- ---- a row of the answer
 
-module _ {file : List ℕ} {allows : ℕ → Bool → Bool} {starts widths s : List ℕ} {m at : ℕ} {rows : List ℕ}
-    (w : RowToWalk file allows starts widths s (first_child (tree_of file) 0) 0 m at rows) where
+-- zeros filled in from a up to e are stored there
+pub zeros_filled : (l zeros : List ℕ) (a e : ℕ) → a ≤ e → e ≤ length l → zeros ≡ replicate (length (take (e - a) (drop a l))) 0
+    → take a l ++ (zeros ++ drop (e - a) (drop a l)) ≡ sets l a (replicate (e - a) 0)
+zeros_filled l zeros a e h k z =
+    let rest : length (drop a l) ≡ length l - a = length-drop a l in
+    let long : length (take (e - a) (drop a l)) ≡ e - a = length-take-le (e - a) (drop a l) (omega arith) in
+    let filled : zeros ≡ replicate (e - a) 0 = z ∙ ap (λ n. replicate n 0) long in
+    let held : length {A = ℕ} (replicate (e - a) 0) ≡ e - a = length-replicate (e - a) 0 in
+    let past : drop (a + length {A = ℕ} (replicate (e - a) 0)) l ≡ drop (e - a) (drop a l) = rw held (sym (drop-drop (e - a) a l)) in
+    let stored : sets l a (replicate (e - a) 0) ≡ take a l ++ (replicate (e - a) 0 ++ drop (e - a) (drop a l)) =
+    rw past at (sets-eq (replicate (e - a) 0) l a (omega (arith, held)))
+    ∙ append_assoc (take a l) (replicate (e - a) 0) (drop (e - a) (drop a l)) in
+    rw filled (sym stored)
+
+module _ {file : List ℕ} {allows : ℕ → Bool → Bool} {places : List Place} {s : List ℕ} {m at : ℕ} {rows : List ℕ}
+    (w : RowToWalk file allows places s (first_child (tree_of file) 0) 0 m at rows) where
   first_is : {child : ℕ} → child ≡ word_of s 0 child_word → child ≡ first_child (tree_of file) 0
   first_is e = table_child w.table (table_sound w.table).some e
 
-  pub row_first : {child : ℕ} → child ≡ word_of s 0 child_word → RowToWalk file allows starts widths s child 0 m at rows
+  pub row_first : {child : ℕ} → child ≡ word_of s 0 child_word → RowToWalk file allows places s child 0 m at rows
   row_first e = rw (first_is e) w
 
   -- the caches end within the row
@@ -172,8 +189,8 @@ module _ {file totals rows : List ℕ} where
   }
 
   module _ {b last : ℕ} {totals' rows' : List ℕ} (p : Planned file totals rows b last totals' rows') where
-    pub plan_budget : {k : ℕ} {starts widths s : List ℕ} → k ≡ budget_of file → Table file (may_be (tree_of file)) starts widths s → b ≤ k
-        → Budget file k starts widths s b last
+    pub plan_budget : {k : ℕ} {places : List Place} {s : List ℕ} → k ≡ budget_of file → FullTable file (may_be (tree_of file)) places s → b ≤ k
+        → Budget file k places s b last
     plan_budget e t h = record { budget = e; table = t; within = omega arith; counted = p.counted }
 
     pub plan_buffers : Buffers file totals rows → Buffers file totals' rows'

@@ -11,6 +11,7 @@ use Rattle.best_rows.proofs.Table.{node_best_attained, best_at_node}
 use Rattle.node_words.specs.Words.{word_of, depth_word}
 use Rattle.lines.specs.Line.{LineParts, entry_of, line_takes, line_later, line_best, LinesHoldBest}
 use Rattle.lines.proofs.HeldBest.{held_best, held_later, held_takes}
+use Rattle.places.specs.declared.Place.{Place}
 use Rattle.table.specs.Table.{line_in, Served}
 use Rattle.table.proofs.Lines.{parts_read}
 use Rattle.table.proofs.Reading.{own_row}
@@ -23,7 +24,7 @@ none_taken : (x : ℕ) (u : Bool) → one x u ≤ 0 → false ≡ u
 none_taken x true h = absurd (omega arith)
 none_taken x false h = refl
 
-module _ {file : List ℕ} {allows : ℕ → Bool → Bool} {starts widths s : List ℕ} {x serving m : ℕ} (r : RowToSplit file allows starts widths s x serving m) where
+module _ {file : List ℕ} {allows : ℕ → Bool → Bool} {places : List Place} {s : List ℕ} {x serving m : ℕ} (r : RowToSplit file allows places s x serving m) where
   -- at its serving node's depth, as it is read
   pub split_served : {above : ℕ} → above ≡ word_of s serving depth_word → Served (tree_of file) x above serving
   split_served e =
@@ -43,7 +44,7 @@ module _ {file : List ℕ} {allows : ℕ → Bool → Bool} {starts widths s : L
     split_parts = parts_read (tree_of file) (demand_of file) allows (budget_of file) (table_sound r.table) at held p q
 
     -- the row's own entry is the least of the splits, and m caches fit
-    pub split_least : {row : List ℕ} {least : ℕ} → row ≡ line_in starts widths s x above → least ≡ entry_of row m
+    pub split_least : {row : List ℕ} {least : ℕ} → row ≡ line_in places s x above → least ≡ entry_of row m
         → (least ≡ line_best cached uncached rest member other m) × (least < cap)
     unfolding node_best_at
     split_least {least = least} e f =

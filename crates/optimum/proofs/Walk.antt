@@ -15,6 +15,7 @@ use Rattle.best_rows.specs.TreeRows.{first_child, next_sibling, row_at}
 use Rattle.best_rows.specs.BestAt.{one, best_at, best_nodes, node_best_at, takes_node, later_at}
 use Rattle.best_rows.proofs.Table.{row_size_node}
 use Rattle.node_words.specs.Words.{word_of, child_word, sibling_word, HasNode}
+use Rattle.places.specs.declared.Place.{Place}
 use Rattle.table.proofs.Server.{table_sound, table_has_node, table_child}
 use Rattle.optimum.specs.Walk.{nodes_from, RowHas, RowToSplit, RowToWalk, NodeToWalk, Walked}
 use Rattle.optimum.proofs.Served.{children_served, children_served_above, siblings_served}
@@ -22,8 +23,8 @@ use Rattle.optimum.proofs.Nodes.{row_has_node, row_without, node_without, childr
 
 -- ---- at a node with n caches at or below it
 
-module _ {file : List ℕ} {allows : ℕ → Bool → Bool} {starts widths s : List ℕ} {x serving n : ℕ} {member : Bool} {at : ℕ} {rows : List ℕ}
-    (r : NodeToWalk file allows starts widths s x serving n member at rows) where
+module _ {file : List ℕ} {allows : ℕ → Bool → Bool} {places : List Place} {s : List ℕ} {x serving n : ℕ} {member : Bool} {at : ℕ} {rows : List ℕ}
+    (r : NodeToWalk file allows places s x serving n member at rows) where
   pub node_stands : HasNode s x
   node_stands = table_has_node r.table r.node.served.node
 
@@ -46,7 +47,7 @@ module _ {file : List ℕ} {allows : ℕ → Bool → Bool} {starts widths s : L
       pub member_some : 0 < n
       member_some = (rw (sym r.own ∙ m) at attained).0
 
-      pub member_row : RowToWalk file allows starts widths s child x (n - 1) (at + 1) (set rows at x)
+      pub member_row : RowToWalk file allows places s child x (n - 1) (at + 1) (set rows at x)
       member_row = rw below_is (record {
         table = r.table;
         row = record {
@@ -64,7 +65,7 @@ module _ {file : List ℕ} {allows : ℕ → Bool → Bool} {starts widths s : L
 
     -- it is none: all among its children
     module _ (m : member ≡ false) where
-      pub other_row : RowToWalk file allows starts widths s child serving n at rows
+      pub other_row : RowToWalk file allows places s child serving n at rows
       other_row = rw below_is (record {
         table = r.table;
         row = record {
@@ -82,15 +83,15 @@ module _ {file : List ℕ} {allows : ℕ → Bool → Bool} {starts widths s : L
 
 -- ---- at a row with m caches
 
-module _ {file : List ℕ} {allows : ℕ → Bool → Bool} {starts widths s : List ℕ} {serving first count start : ℕ} {old : List ℕ} where
-  pub serving_stands : RowToWalk file allows starts widths s first serving count start old → HasNode s serving
+module _ {file : List ℕ} {allows : ℕ → Bool → Bool} {places : List Place} {s : List ℕ} {serving first count start : ℕ} {old : List ℕ} where
+  pub serving_stands : RowToWalk file allows places s first serving count start old → HasNode s serving
   serving_stands h = table_has_node h.table h.row.served.above
 
-  pub walk_begins : RowToWalk file allows starts widths s first serving count start old
-      → Walked file allows starts widths s serving first count start old first count start old
+  pub walk_begins : RowToWalk file allows places s first serving count start old
+      → Walked file allows places s serving first count start old first count start old
   walk_begins h = record { here = h; left = refl; smaller = le_refl _; long = refl; stores = refl }
 
-  module _ {x m at : ℕ} {new : List ℕ} (w : Walked file allows starts widths s serving first count start old x m at new) where
+  module _ {x m at : ℕ} {new : List ℕ} (w : Walked file allows places s serving first count start old x m at new) where
     pub walk_ends : m ≤ 0 → (at ≡ start + count) × (new ≡ sets old start (best_nodes (tree_of file) (demand_of file) allows first serving count))
     walk_ends h =
         let none : m ≡ 0 = omega arith in
@@ -104,7 +105,7 @@ module _ {file : List ℕ} {allows : ℕ → Bool → Bool} {starts widths s : L
       walked_site : 0 < x
       walked_site = row_has_node (tree_of file) (demand_of file) allows x serving m some row.attained
 
-      pub walked_row : RowToSplit file allows starts widths s x serving m
+      pub walked_row : RowToSplit file allows places s x serving m
       walked_row = record { table = w.here.table; site = walked_site; row = row }
 
       pub walked_stands : HasNode s x
@@ -134,7 +135,7 @@ module _ {file : List ℕ} {allows : ℕ → Bool → Bool} {starts widths s : L
         both_attained = rw e (row_attained (tree_of file) (demand_of file) allows x serving m walked_site row.served.node row.attained)
 
         pub walked_node : {member : Bool} → member ≡ takes_node (tree_of file) (demand_of file) allows x serving (m - later)
-            → NodeToWalk file allows starts widths s x serving (m - later) member at new
+            → NodeToWalk file allows places s x serving (m - later) member at new
         walked_node u = record {
           table = w.here.table;
           node = record {
@@ -149,7 +150,7 @@ module _ {file : List ℕ} {allows : ℕ → Bool → Bool} {starts widths s : L
 
         pub walk_turns : {end next : ℕ} {l : List ℕ} → next ≡ word_of s x sibling_word → end ≡ at + (m - later)
             → l ≡ sets new at (nodes_from (tree_of file) (demand_of file) allows x serving (m - later)) → length l ≡ length new
-            → Walked file allows starts widths s serving first count start old next later end l
+            → Walked file allows places s serving first count start old next later end l
         walk_turns f g k long =
             let t = tree_of file in
             let d = demand_of file in
@@ -171,7 +172,7 @@ module _ {file : List ℕ} {allows : ℕ → Bool → Bool} {starts widths s : L
 
         -- all are among the later siblings
         pub walk_passes : {next : ℕ} → next ≡ word_of s x sibling_word → m ≤ later
-            → Walked file allows starts widths s serving first count start old next m at new
+            → Walked file allows places s serving first count start old next m at new
         walk_passes f all =
             let same : later ≡ m = omega (arith, walked_later) in
             let none : m - later ≡ 0 = omega arith in

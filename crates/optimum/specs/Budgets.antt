@@ -8,12 +8,13 @@ use Rattle.model.specs.Plan.{plan_total}
 use Rattle.model.specs.Calls.{plan_row}
 use Rattle.best_rows.specs.Guarded.{may_be}
 use Rattle.best_rows.specs.BestAt.{least_count}
-use Rattle.table.specs.Table.{Table}
+use Rattle.places.specs.declared.Place.{Place}
+use Rattle.table.specs.Table.{FullTable}
 
 -- what budget b is written from: the table, and how many caches the budget before it has
-pub record Budget (file : List ℕ) (k : ℕ) (starts widths s : List ℕ) (b last : ℕ) : Type 0 where
+pub record Budget (file : List ℕ) (k : ℕ) (places : List Place) (s : List ℕ) (b last : ℕ) : Type 0 where
   pub budget : k ≡ budget_of file
-  pub table : Table file (may_be (tree_of file)) starts widths s
+  pub table : FullTable file (may_be (tree_of file)) places s
   pub within : b ≤ budget_of file
   pub counted : last ≡ least_count (tree_of file) (demand_of file) (may_be (tree_of file)) (b - 1)
 

@@ -9,7 +9,8 @@ use Rattle.best_rows.specs.Best.{cap}
 use Rattle.best_rows.specs.TreeRows.{first_child, row_at}
 use Rattle.best_rows.specs.BestAt.{one, best_at, best_nodes, node_best_at, takes_node}
 use Rattle.node_words.specs.Ancestors.{ancestor_at}
-use Rattle.table.specs.Table.{Table}
+use Rattle.places.specs.declared.Place.{Place}
+use Rattle.table.specs.Table.{FullTable}
 
 -- the row that begins with x, if there is one, has the serving node `serving` above it
 pub record RowServed (t : Tree) (x serving : ℕ) : Type 0 where
@@ -40,25 +41,25 @@ module _ (file : List ℕ) (allows : ℕ → Bool → Bool) (x serving : ℕ) wh
 
 -- ---- what the walk needs: the table, a number of caches that fits, and room for them in the rows of the answer
 
-pub record RowToSplit (file : List ℕ) (allows : ℕ → Bool → Bool) (starts widths s : List ℕ) (x serving m : ℕ) : Type 0 where
-  pub table : Table file allows starts widths s
+pub record RowToSplit (file : List ℕ) (allows : ℕ → Bool → Bool) (places : List Place) (s : List ℕ) (x serving m : ℕ) : Type 0 where
+  pub table : FullTable file allows places s
   pub site : 0 < x
   pub row : RowHas file allows x serving m
 
-pub record RowToWalk (file : List ℕ) (allows : ℕ → Bool → Bool) (starts widths s : List ℕ) (x serving m at : ℕ) (rows : List ℕ) : Type 0 where
-  pub table : Table file allows starts widths s
+pub record RowToWalk (file : List ℕ) (allows : ℕ → Bool → Bool) (places : List Place) (s : List ℕ) (x serving m at : ℕ) (rows : List ℕ) : Type 0 where
+  pub table : FullTable file allows places s
   pub row : RowHas file allows x serving m
   pub room : at + m ≤ length rows
 
-pub record NodeToWalk (file : List ℕ) (allows : ℕ → Bool → Bool) (starts widths s : List ℕ) (x serving n : ℕ) (member : Bool) (at : ℕ) (rows : List ℕ) : Type 0 where
-  pub table : Table file allows starts widths s
+pub record NodeToWalk (file : List ℕ) (allows : ℕ → Bool → Bool) (places : List Place) (s : List ℕ) (x serving n : ℕ) (member : Bool) (at : ℕ) (rows : List ℕ) : Type 0 where
+  pub table : FullTable file allows places s
   pub node : NodeHas file allows x serving n
   pub own : member ≡ takes_node (tree_of file) (demand_of file) allows x serving n
   pub room : at + n ≤ length rows
 
 -- a walk that began at node `first` with `count` caches to write from `start` on is at node x, with m still to write from `at` on
-pub record Walked (file : List ℕ) (allows : ℕ → Bool → Bool) (starts widths s : List ℕ) (serving first count start : ℕ) (old : List ℕ) (x m at : ℕ) (new : List ℕ) : Type 0 where
-  pub here : RowToWalk file allows starts widths s x serving m at new
+pub record Walked (file : List ℕ) (allows : ℕ → Bool → Bool) (places : List Place) (s : List ℕ) (serving first count start : ℕ) (old : List ℕ) (x m at : ℕ) (new : List ℕ) : Type 0 where
+  pub here : RowToWalk file allows places s x serving m at new
   pub left : at + m ≡ start + count
   pub smaller : row_size (row_at (tree_of file) x) ≤ row_size (row_at (tree_of file) first)
   pub long : length new ≡ length old

@@ -1,14 +1,14 @@
 // The plan: for each budget the caches of the least total, first in the order of ties, read back from the table.
 #![tactic(auto)]
 
-ghost use Rattle.std.specs.Prelude.{◌≡◌, ◌&&◌, suc, ◌+◌, ◌-◌, ◌*◌, ◌≤◌, ◌<◌, leb, length, set, replicate};
+ghost use Rattle.std.specs.Prelude.{◌≡◌, ◌&&◌, suc, ◌+◌, ◌-◌, ◌*◌, ◌≤◌, leb, length, set};
 ghost use Rattle.std.proofs.lemmas.List.Edits.{sets};
 ghost use Rattle.laws.specs.Fronts.{FrontOnly};
-ghost use Rattle.model.specs.File.{most_nodes, most_budget, record_length, budget_of, tree_of, demand_of};
+ghost use Rattle.model.specs.File.{most_nodes, most_budget, budget_of, tree_of, demand_of};
 ghost use Rattle.model.specs.Rules.{scratch_words};
 ghost use Rattle.model.specs.Plan.{plan_total, row};
 ghost use Rattle.model.specs.Calls.{plan_totals, plan_row, plan_rows, PlanCall};
-ghost use Rattle.tree_file.specs.Checks.{verdict_of};
+ghost use Rattle.tree_file.specs.Refusals.{verdict_of};
 ghost use Rattle.lent.specs.Lent.{LentRoom};
 ghost use Rattle.best_rows.specs.Least.{better};
 ghost use Rattle.best_rows.specs.Guarded.{may_be};
@@ -16,13 +16,15 @@ ghost use Rattle.best_rows.specs.TreeRows.{first_child};
 ghost use Rattle.best_rows.specs.BestAt.{best_nodes, least_count, takes_node, later_at};
 ghost use Rattle.node_words.specs.Words.{depth_word, word_of};
 ghost use Rattle.lines.specs.Line.{entry_of};
-ghost use Rattle.table.specs.Table.{Table};
+ghost use Rattle.table.specs.Table.{FullTable};
 ghost use Rattle.optimum.specs.Walk.{nodes_from, RowToSplit, RowToWalk, NodeToWalk};
 ghost use Rattle.optimum.specs.Budgets.{Budget, Buffers};
 
-use table::Wish;
-use tree_file::{Checked, Ruling};
-use units::Total;
+use fields::{Tree, TreeFile};
+use lines::NodeLines;
+use places::Place;
+use table::Table;
+use tree_file::{Refusal, Rule};
 
 // How the caches of a row split: how many are among the later siblings, and whether the first node is one of the others.
 #[derive(Clone, Copy)]
@@ -33,34 +35,36 @@ struct Split {
 
 // ---- the walk through the table
 
-// How the m caches of the row that begins with x split, where `serving` is the serving node above it, at depth `above`. Records of
-// the file have `size` bytes.
+// How the m caches of the row that begins with x split, where `serving` is the serving node above it, at depth `above`.
 fn split_of(
-    file: &[u8],
-    size: usize,
-    s: &[u64],
-    starts: &[u32],
-    widths: &[u16],
+    file: &TreeFile,
+    table: Table,
     x: usize,
     serving: usize,
     above: usize,
     m: usize,
 ) -> Split
-    requires row_to_split { RowToSplit file.now (may_be (tree_of file.now)) starts.now widths.now s.now x serving m }
-    requires size_value { (size ≡ record_length file.now) × (above ≡ word_of s.now serving depth_word) }
+    requires row_to_split { RowToSplit file.now (may_be (tree_of file.now)) table.places.now table.words.now x serving m }
+    requires above_value { above ≡ word_of table.words.now serving depth_word }
     ensures later_value { result.later ≡ later_at (tree_of file.now) (demand_of file.now) (may_be (tree_of file.now)) x serving m }
     ensures member_value { result.member ≡ takes_node (tree_of file.now) (demand_of file.now) (may_be (tree_of file.now)) x serving (m - result.later) }
 {
-    let child = node_words::child_of(s, x);
-    let cached = table::line(s, starts, widths, child, node_words::depth_word(s, x));
-    let uncached = table::line(s, starts, widths, child, above);
-    let sibling = node_words::sibling_of(s, x);
-    let rest = table::line(s, starts, widths, sibling, above);
-    let least = lines::entry(table::line(s, starts, widths, x, above), m);
-    let part = fields::cachable_in(file, size, x);
-    let member = table::pays_itself(file, size, part, s, x);
-    let other = table::pays(file, size, part, s, x, serving);
-    let later = lines::later(cached, uncached, rest, member, other, m, least);
+    let child = node_words::child_of(table.words, x);
+    let cached = table.line(child, node_words::depth_word(table.words, x));
+    let uncached = table.line(child, above);
+    let sibling = node_words::sibling_of(table.words, x);
+    let rest = table.line(sibling, above);
+    let least = lines::entry(table.line(x, above), m);
+    let part = file.cachable(x);
+    let member = table::pays_itself(file, part, table.words, x);
+    let other = table::pays(file, part, table.words, x, serving);
+    let node = NodeLines {
+        cached,
+        uncached,
+        member,
+        other,
+    };
+    let later = node.later(rest, m, least);
     // with no caches at or below x it is none of them
     if m <= later {
         return Split {
@@ -70,17 +74,15 @@ fn split_of(
     }
     Split {
         later,
-        member: lines::takes(cached, uncached, member, other, m - later),
+        member: node.takes(m - later),
     }
 }
 
 // Writes the n caches at or below x from `at` on, x being one of them if it is a member, and returns where they end.
 #[cycle(walk_node_walk_row)]
 fn walk_node(
-    file: &[u8],
-    s: &[u64],
-    starts: &[u32],
-    widths: &[u16],
+    file: &TreeFile,
+    table: Table,
     rows: &mut [u16],
     x: usize,
     serving: usize,
@@ -88,59 +90,46 @@ fn walk_node(
     member: bool,
     at: usize,
 ) -> usize
-    requires { NodeToWalk file.now (may_be (tree_of file.now)) starts.now widths.now s.now x serving n member at rows.old }
+    requires { NodeToWalk file.now (may_be (tree_of file.now)) table.places.now table.words.now x serving n member at rows.old }
     ensures value { result ≡ at + n }
     ensures rows_after { rows.new ≡ sets rows.old at (nodes_from (tree_of file.now) (demand_of file.now) (may_be (tree_of file.now)) x serving n) }
 {
-    let child = node_words::child_of(s, x);
+    let child = node_words::child_of(table.words, x);
     if member {
         rows[at] = x as u16;
-        return walk_row(file, s, starts, widths, rows, child, x, n - 1, at + 1);
+        return walk_row(file, table, rows, child, x, n - 1, at + 1);
     }
-    walk_row(file, s, starts, widths, rows, child, serving, n, at)
+    walk_row(file, table, rows, child, serving, n, at)
 }
 
 // Writes the `count` caches of the row that begins with `first` from `start` on, and returns where they end.
 #[cycle(walk_node_walk_row)]
 fn walk_row(
-    file: &[u8],
-    s: &[u64],
-    starts: &[u32],
-    widths: &[u16],
+    file: &TreeFile,
+    table: Table,
     rows: &mut [u16],
     first: usize,
     serving: usize,
     count: usize,
     start: usize,
 ) -> usize
-    requires { RowToWalk file.now (may_be (tree_of file.now)) starts.now widths.now s.now first serving count start rows.old }
+    requires { RowToWalk file.now (may_be (tree_of file.now)) table.places.now table.words.now first serving count start rows.old }
     ensures value { result ≡ start + count }
     ensures rows_after { rows.new ≡ sets rows.old start (best_nodes (tree_of file.now) (demand_of file.now) (may_be (tree_of file.now)) first serving count) }
 {
-    let size = fields::record_length(file);
-    let above = node_words::depth_word(s, serving);
+    let above = node_words::depth_word(table.words, serving);
     let mut x = first;
     let mut m = count;
     let mut at = start;
+    // goes from sibling to sibling until no cache is left; the siblings are no range
     while 0 < m {
-        let split = split_of(file, size, s, starts, widths, x, serving, above, m);
+        let split = split_of(file, table, x, serving, above, m);
         let later = split.later;
         if later < m {
-            at = walk_node(
-                file,
-                s,
-                starts,
-                widths,
-                rows,
-                x,
-                serving,
-                m - later,
-                split.member,
-                at,
-            );
+            at = walk_node(file, table, rows, x, serving, m - later, split.member, at);
             m = later;
         }
-        x = node_words::sibling_of(s, x);
+        x = node_words::sibling_of(table.words, x);
     }
     at
 }
@@ -158,118 +147,77 @@ fn better_count(line: &[u64], last: usize, next: usize) -> usize
     }
 }
 
-// Stores zeros from `start` up to `end`.
-fn clear(rows: &mut [u16], start: usize, end: usize)
-    requires { (start ≤ end) × (end ≤ length rows.old) }
-    ensures { rows.new ≡ sets rows.old start (replicate (end - start) 0) }
-{
-    let mut i = start;
-    while i < end {
-        rows[i] = 0;
-        i += 1;
-    }
-}
-
 // Writes a row of the answer from `at` on: the m caches of the server's row, then zeros.
-pub fn write_row(
-    file: &[u8],
-    k: usize,
-    s: &[u64],
-    starts: &[u32],
-    widths: &[u16],
-    rows: &mut [u16],
-    m: usize,
-    at: usize,
-)
+pub fn write_row(file: &TreeFile, k: usize, table: Table, rows: &mut [u16], m: usize, at: usize)
     requires k_value { k ≡ budget_of file.now }
-    requires row_to_walk { RowToWalk file.now (may_be (tree_of file.now)) starts.now widths.now s.now (first_child (tree_of file.now) 0) 0 m at rows.old }
+    requires row_to_walk { RowToWalk file.now (may_be (tree_of file.now)) table.places.now table.words.now (first_child (tree_of file.now) 0) 0 m at rows.old }
     requires k_in_bounds { at + k ≤ length rows.old }
     ensures { rows.new ≡ sets rows.old at (row k (best_nodes (tree_of file.now) (demand_of file.now) (may_be (tree_of file.now)) (first_child (tree_of file.now) 0) 0 m)) }
 {
     let end = walk_row(
         file,
-        s,
-        starts,
-        widths,
+        table,
         rows,
-        node_words::child_of(s, 0),
+        node_words::child_of(table.words, 0),
         0,
         m,
         at,
     );
-    clear(rows, end, at + k);
+    rows[end..at + k].fill(0);
 }
 
 // Writes the total and the row of budget b, and returns how many caches it has; `last` is how many the budget before has.
 fn write_budget(
-    file: &[u8],
+    file: &TreeFile,
     k: usize,
-    s: &[u64],
-    starts: &[u32],
-    widths: &[u16],
+    table: Table,
     totals: &mut [u64],
     rows: &mut [u16],
     b: usize,
     last: usize,
 ) -> usize
-    requires budget { Budget file.now k starts.now widths.now s.now b last }
+    requires budget { Budget file.now k table.places.now table.words.now b last }
     requires buffers { Buffers file.now totals.old rows.old }
     ensures value { result ≡ least_count (tree_of file.now) (demand_of file.now) (may_be (tree_of file.now)) b }
     ensures totals_after { totals.new ≡ set totals.old b (plan_total (tree_of file.now) (demand_of file.now) b) }
     ensures rows_after { rows.new ≡ sets rows.old (b * k) (plan_row file.now b) }
 {
-    let line = table::server_line(s, starts, widths);
+    let line = table.server_line();
     let count = better_count(line, last, b);
     totals[b] = lines::entry(line, count).0;
-    write_row(file, k, s, starts, widths, rows, count, b * k);
+    write_row(file, k, table, rows, count, b * k);
     count
 }
 
 // Writes every budget.
-fn write_plan(
-    file: &[u8],
-    k: usize,
-    s: &[u64],
-    starts: &[u32],
-    widths: &[u16],
-    totals: &mut [u64],
-    rows: &mut [u16],
-)
+fn write_plan(file: &TreeFile, k: usize, table: Table, totals: &mut [u64], rows: &mut [u16])
     requires k_value { k ≡ budget_of file.now }
-    requires table { Table file.now (may_be (tree_of file.now)) starts.now widths.now s.now }
+    requires table { FullTable file.now (may_be (tree_of file.now)) table.places.now table.words.now }
     requires buffers { Buffers file.now totals.old rows.old }
     ensures totals_after { totals.new ≡ sets totals.old 0 (plan_totals file.now) }
     ensures rows_after { rows.new ≡ sets rows.old 0 (plan_rows file.now) }
 {
     let mut count = 0;
-    let mut b = 0;
-    while b <= k {
-        count = write_budget(file, k, s, starts, widths, totals, rows, b, count);
-        b += 1;
+    for b in 0..k + 1 {
+        count = write_budget(file, k, table, totals, rows, b, count);
     }
 }
 
 // Notes where the lines stand, and fills the plan's table in the scratch.
-pub fn plan_table(
-    file: &[u8],
-    tree: fields::Tree,
-    scratch: &mut [u64],
-    starts: &mut [u32],
-    widths: &mut [u16],
-)
+pub fn plan_table(file: &TreeFile, tree: Tree, scratch: &mut [u64], places: &mut [Place])
     requires lent_room { LentRoom file.now tree scratch.old }
-    requires most_nodes_in_bounds { (most_nodes ≤ length starts.old) × (most_nodes ≤ length widths.old) }
-    ensures table { Table file.now (may_be (tree_of file.now)) starts.new widths.new scratch.new }
+    requires most_nodes_in_bounds { most_nodes ≤ length places.old }
+    ensures table { FullTable file.now (may_be (tree_of file.now)) places.new scratch.new }
     ensures front_only { FrontOnly (scratch_words file.now) scratch.old scratch.new }
 {
-    places::note_places(file, tree, starts, widths);
-    table::make_table(file, tree.nodes, scratch, starts, widths, Wish::None);
+    places::note_places(file, tree, places);
+    table::make_table(file, scratch, places, None);
 }
 
 // Makes the table, and writes the plan from it.
 pub fn make_plan(
-    file: &[u8],
-    tree: fields::Tree,
+    file: &TreeFile,
+    tree: Tree,
     scratch: &mut [u64],
     totals: &mut [u64],
     rows: &mut [u16],
@@ -280,10 +228,13 @@ pub fn make_plan(
     ensures totals_after { totals.new ≡ sets totals.old 0 (plan_totals file.now) }
     ensures rows_after { rows.new ≡ sets rows.old 0 (plan_rows file.now) }
 {
-    let mut starts = [0u32; fields::Tree::NODES];
-    let mut widths = [0u16; fields::Tree::NODES];
-    plan_table(file, tree, scratch, &mut starts, &mut widths);
-    write_plan(file, tree.budget, scratch, &starts, &widths, totals, rows);
+    let mut places = [Place::NONE; Tree::NODES];
+    plan_table(file, tree, scratch, &mut places);
+    let table = Table {
+        words: scratch,
+        places: &places,
+    };
+    write_plan(file, tree.budget, table, totals, rows);
 }
 
 // ---- the call
@@ -300,18 +251,16 @@ pub fn buffers_long(k: usize, totals: usize, rows: usize) -> bool
 }
 
 // For each budget from 0 to k the least total and the nodes of the plan; a refusal writes nothing.
-pub fn plan(file: &[u8], scratch: &mut [u64], totals: &mut [u64], rows: &mut [u16]) -> Ruling
+pub fn plan(
+    file: &[u8],
+    scratch: &mut [u64],
+    totals: &mut [u64],
+    rows: &mut [u16],
+) -> Result<(), Refusal>
     ensures { PlanCall file.now record { scratch = scratch.entry.now; totals = totals.old; rows = rows.old } (verdict_of result) record { scratch = scratch.exit.now; totals = totals.new; rows = rows.new } }
 {
-    let checked = lent::check(file, scratch.len());
-    match checked {
-        Checked::Accepted(tree) => {
-            if !buffers_long(tree.budget, totals.len(), rows.len()) {
-                return Ruling::Broken(14, 0);
-            }
-            make_plan(file, tree, scratch, totals, rows);
-            Ruling::Passed
-        }
-        Checked::Refused(q, record) => Ruling::Broken(q, record),
-    }
+    let tree = lent::check(file, scratch.len())?;
+    Rule::Buffers.ask(buffers_long(tree.budget, totals.len(), rows.len()))?;
+    make_plan(&TreeFile::of(file), tree, scratch, totals, rows);
+    Ok(())
 }

@@ -1,57 +1,82 @@
--- Laws of loops over a set: rule 12 from its front, first that it ascends and then that it is open, and a cursor that meets each member as the node number goes up.
-use mathlib.Core.Path.{◌≡◌, refl, sym, ◌∙◌}
-use mathlib.Core.Bool.{Bool, true, false, or-false}
+-- Laws of loops over a set: rule 12 from its front, first that it ascends and then that it is open, and the members that are left as the node number goes up.
+use mathlib.Core.Path.{◌≡◌, refl, sym, ◌∙◌, ap}
+use mathlib.Core.Bool.{Bool, true, false, cond, ◌&&◌, and-true, or-false}
 use mathlib.Core.List.{List, [], ◌∷◌}
 use Prim.Native.Nat.{ℕ, zero, suc, ◌+◌, ◌≤◌, ◌<◌}
-use native.Mathlib.Numerals.{add-one}
 use native.Mathlib.Decide.{dec_lt, ℕ_discrete}
 use native.Mathlib.Omega.{arith}
-use lib.Dec.{ltb, eqb}
-use lib.ListN.{length, get_or, drop, get_or-eq_default}
-use lib.Seq.{drop-cons, drop-nil}
-use borrow.Author.Tests.{lt-ltb, le-ltb, eq-eqb, ne_eqb}
-use Rattle.laws.specs.Lists.{has, all_of, how_many, bit}
-use Rattle.laws.proofs.Bools.{by_test}
-use Rattle.laws.proofs.Counts.{how_many_le}
+use lib.Dec.{eqb, leb, ltb}
+use lib.ListN.{length, get_or, drop}
+use borrow.Author.Tests.{lt-ltb, le-leb, lt-leb, leb-true, eq-eqb, ne_eqb}
+use Rattle.std.specs.Iterator.{AlwaysYields}
+use Rattle.std.specs.Slice.Iter.{windows_rest, windows_size, windows_steps}
+use Rattle.std.specs.List.{list_all}
+use Rattle.std.proofs.lemmas.Iterator.{YieldsList}
+use Rattle.laws.specs.Lists.{has, all_of, those}
+use Rattle.laws.proofs.Bools.{by_test, both}
 use Rattle.model.specs.Rules.{ascends}
 use Rattle.model.proofs.Ascending.{ascends_cons, ascends_bounds}
-use Rattle.placement.specs.Passes.{members_before}
+use Rattle.placement.specs.Passes.{members_from}
 
--- ---- rule 12: the first i members ascend, the last of them is a
+-- ---- rule 12: each member from 1 to n − 1, and each below the next
 
-past_end : (k : List ℕ) (i : ℕ) → length k ≤ i → drop i k ≡ []
-past_end [] i h = drop-nil i
-past_end (x ∷ k) zero h = absurd (omega arith)
-past_end (x ∷ k) (suc i) h = past_end k i (omega arith)
+-- the pairs of neighbours
+pub pairs : List ℕ → List (List ℕ)
+pairs [] = []
+pairs (x ∷ []) = []
+pairs (x ∷ y ∷ k) = (x ∷ y ∷ []) ∷ pairs (y ∷ k)
 
-module _ (n : ℕ) (k : List ℕ) (a i : ℕ) (so_far : ascends 0 n k ≡ ascends a n (drop i k)) where
-  pub set_goes_on : i < length k → a < get_or k i 0 → get_or k i 0 < n → ascends 0 n k ≡ ascends (get_or k i 0) n (drop (i + 1) k)
-  unfolding ascends
-  set_goes_on h low high = so_far ∙ rw (drop-cons k i 0 h, lt-ltb a (get_or k i 0) low, lt-ltb (get_or k i 0) n high, add-one i)
+-- `windows(2)` gives them
+pairs_run : (k : List ℕ) (s : _) → windows_rest s ≡ k → windows_size s ≡ 2 → AlwaysYields windows_steps (λ w. w.now) s (pairs k)
+unfolding pairs
+pairs_run [] s r n = λ w j p. omega (arith, p.1.0, ap length r)
+pairs_run (x ∷ []) s r n = λ w j p. omega (arith, p.1.0, ap length r)
+pairs_run (x ∷ y ∷ k) s r n = (
+  λ j p. omega (arith, p.1.0, ap length r),
+  λ w j p. (p.1.1 ∙ rw (n, r) refl, pairs_run (y ∷ k) j (p.1.2 ∙ rw r refl) (p.0 ∙ n)),
+)
 
-  pub set_breaks : i < length k → (a < get_or k i 0 → get_or k i 0 < n → ⊥) → ascends 0 n k ≡ false
-  set_breaks h bad =
-      by_test (λ b. b ≡ false) (ascends 0 n k)
-      (λ e. let parts = (ascends_cons n a (get_or k i 0) (drop (suc i) k)).0 (rw (← drop-cons k i 0 h) (sym so_far ∙ e)) in absurd (bad parts.0 parts.1))
-      (λ _. refl)
+pub pairs_given : (k : List ℕ) {s : _} → windows_rest s ≡ k → windows_size s ≡ 2 → YieldsList windows_steps (λ w. w.now) s (pairs k)
+pairs_given k {s} r n = record { runs = pairs_run k s r n }
 
-  pub set_ends : length k ≤ i → ascends 0 n k ≡ true
-  unfolding ascends
-  set_ends h = so_far ∙ rw (past_end k i h)
+abbrev pub rises : List ℕ → Bool
+rises w = ltb (get_or w 0 0) (get_or w 1 0)
 
--- the first i members are open
-module _ (p : ℕ → Bool) (k : List ℕ) (i : ℕ) (so_far : all_of p k ≡ all_of p (drop i k)) where
-  pub open_goes_on : i < length k → p (get_or k i 0) ≡ true → all_of p k ≡ all_of p (drop (i + 1) k)
-  unfolding all_of
-  open_goes_on h e = so_far ∙ rw (drop-cons k i 0 h, e, add-one i)
+module _ (n : ℕ) where
+  abbrev pub within : ℕ → Bool
+  within v = leb 1 v && ltb v n
 
-  pub open_breaks : i < length k → p (get_or k i 0) ≡ false → all_of p k ≡ false
-  unfolding all_of
-  open_breaks h e = so_far ∙ rw (drop-cons k i 0 h, e)
+  rise_after : (x : ℕ) (k : List ℕ) → list_all within k ≡ true → list_all rises (pairs (x ∷ k)) ≡ ascends x n k
+  unfolding ascends pairs
+  rise_after x [] h = refl
+  rise_after x (y ∷ k) h =
+      let parts = both (within y) (list_all within k) h in
+      rw ((both (leb 1 y) (ltb y n) parts.0).1, and-true (ltb x y), rise_after y k parts.1) refl
 
-  pub open_ends : length k ≤ i → all_of p k ≡ true
-  unfolding all_of
-  open_ends h = so_far ∙ rw (past_end k i h)
+  -- where each is from 1 to n − 1, the pairs tell
+  pub pairs_tell : (k : List ℕ) → list_all within k ≡ true → list_all rises (pairs k) ≡ ascends 0 n k
+  unfolding ascends pairs
+  pairs_tell [] h = refl
+  pairs_tell (y ∷ k) h =
+      let parts = both (within y) (list_all within k) h in
+      let bounds = both (leb 1 y) (ltb y n) parts.0 in
+      rw (bounds.1, lt-ltb 0 y (omega (arith, leb-true 1 y bounds.0))) (rise_after y k parts.1)
+
+  bounds_kept : (a : ℕ) (k : List ℕ) → ascends a n k ≡ true → list_all within k ≡ true
+  bounds_kept a [] h = refl
+  bounds_kept a (y ∷ k) h =
+      let parts = (ascends_cons n a y k).0 h in
+      rw (le-leb 1 y (omega (arith, parts.0)), lt-ltb y n parts.1) (bounds_kept y k parts.2)
+
+  pub out_of_bounds : (k : List ℕ) → list_all within k ≡ false → ascends 0 n k ≡ false
+  out_of_bounds k h =
+      by_test (λ b. b ≡ false) (ascends 0 n k) (λ e. sym (bounds_kept 0 k e) ∙ h) (λ _. refl)
+
+-- each member is open
+pub all_asked : (p : ℕ → Bool) (k : List ℕ) → list_all p k ≡ all_of p k
+unfolding all_of
+all_asked p [] = refl
+all_asked p (x ∷ k) = rw (all_asked p k) refl
 
 -- ---- its size and its entries
 
@@ -69,56 +94,76 @@ entry_in_set n a (v ∷ k) (suc j) h s =
     let later = entry_in_set n v k j (omega arith) parts.2 in
     (omega (arith, parts.0, later.0), later.1)
 
--- ---- the cursor of a set that ascends from above a on
+-- ---- the members that are left, of a set that ascends from above a on
 
-pub cursor_bound : (k : List ℕ) (v : ℕ) → members_before k v ≤ length k
-unfolding members_before
-cursor_bound k v = how_many_le (λ u. ltb u v) k
+-- is v the first of them?
+first_is : List ℕ → ℕ → Bool
+first_is [] v = false
+first_is (x ∷ k) v = eqb x v
+
+none_first : (k : List ℕ) (v : ℕ) → length k ≡ 0 → first_is k v ≡ false
+unfolding first_is
+none_first [] v h = refl
+none_first (x ∷ k) v h = absurd (omega arith)
 
 module _ (n : ℕ) where
-  -- it stays at its front up to the number after a
-  pub cursor_begins : (a v : ℕ) (k : List ℕ) → v ≤ a + 1 → ascends a n k ≡ true → members_before k v ≡ 0
-  unfolding members_before how_many
-  cursor_begins a v [] h s = refl
-  cursor_begins a v (x ∷ k) h s =
+  -- up to the number after a all are left
+  pub all_left : (a v : ℕ) (k : List ℕ) → v ≤ a + 1 → ascends a n k ≡ true → members_from k v ≡ k
+  unfolding members_from those
+  all_left a v [] h s = refl
+  all_left a v (x ∷ k) h s =
       let parts = (ascends_cons n a x k).0 s in
-      rw (le-ltb x v (omega (arith, parts.0))) (omega (arith, cursor_begins x v k (omega (arith, parts.0)) parts.2))
+      rw (le-leb v x (omega (arith, parts.0)), all_left x v k (omega (arith, parts.0)) parts.2)
 
   lacks_earlier : (a v : ℕ) (k : List ℕ) → v ≤ a → ascends a n k ≡ true → has k v ≡ false
   lacks_earlier a v k h s = by_test (λ b. b ≡ false) (has k v) (λ m. absurd (omega (arith, ascends_bounds n a v k s m))) (λ _. refl)
 
-  -- the node is a member just if the cursor's member is that node
-  pub cursor_tests : (a v : ℕ) (k : List ℕ) → 1 ≤ v → ascends a n k ≡ true → eqb (get_or k (members_before k v) 0) v ≡ has k v
-  unfolding members_before how_many has
-  cursor_tests a v [] z s = ne_eqb 0 v (λ e. omega arith)
-  cursor_tests a v (x ∷ k) z s =
+  -- the node is a member just if it is the first of those left
+  member_first : (a v : ℕ) (k : List ℕ) → ascends a n k ≡ true → first_is (members_from k v) v ≡ has k v
+  unfolding members_from those has first_is
+  member_first a v [] s = refl
+  member_first a v (x ∷ k) s =
       let parts = (ascends_cons n a x k).0 s in
       elim (dec_lt x v) [
-        | yes l ↦
-            let next : 1 + members_before k v ≡ suc (members_before k v) = omega arith in
-            rw (lt-ltb x v l, ne_eqb x v (λ e. omega arith), next) (cursor_tests x v k z parts.2)
-        | no l ↦ rw (le-ltb x v (omega arith), cursor_begins x v k (omega arith) parts.2, lacks_earlier x v k (omega arith) parts.2, or-false (eqb x v))
+        | yes l ↦ rw (lt-leb v x l, ne_eqb x v (λ e. omega arith)) (member_first x v k parts.2)
+        | no l ↦ rw (le-leb v x (omega arith), lacks_earlier x v k (omega arith) parts.2, or-false (eqb x v))
       ]
 
-  -- past the last member there is none
-  pub cursor_at_end : (a v : ℕ) (k : List ℕ) → 1 ≤ v → ascends a n k ≡ true → length k ≤ members_before k v → has k v ≡ false
-  cursor_at_end a v k z s h = sym (cursor_tests a v k z s) ∙ rw (get_or-eq_default k 0 {n = members_before k v} h) (ne_eqb 0 v (λ e. omega arith))
-
-  -- it goes on by one at a member
-  pub cursor_turns : (a v : ℕ) (k : List ℕ) → ascends a n k ≡ true → members_before k (v + 1) ≡ members_before k v + bit (has k v)
-  unfolding members_before how_many has
-  cursor_turns a v [] s = omega arith
-  cursor_turns a v (x ∷ k) s =
+  -- and is then not left for the next
+  left_after : (a v : ℕ) (k : List ℕ) → ascends a n k ≡ true
+      → members_from k (v + 1) ≡ cond (first_is (members_from k v) v) (drop 1 (members_from k v)) (members_from k v)
+  unfolding members_from those first_is
+  left_after a v [] s = refl
+  left_after a v (x ∷ k) s =
       let parts = (ascends_cons n a x k).0 s in
-      let rest = cursor_turns x v k parts.2 in
-      elim (ℕ_discrete x v) [
-        | yes e ↦
-            let none = rw (lacks_earlier x v k (omega arith) parts.2) at rest in
-            rw (lt-ltb x (v + 1) (omega arith), le-ltb x v (omega arith), eq-eqb x v e) (omega arith)
-        | no e ↦
-            rw (ne_eqb x v e)
-            (elim (dec_lt x v) [
-              | yes l ↦ rw (lt-ltb x (v + 1) (omega arith), lt-ltb x v l) (omega arith)
-              | no l ↦ rw (le-ltb x (v + 1) (omega arith), le-ltb x v (omega arith)) (omega arith)
-            ])
+      elim (dec_lt x v) [
+        | yes l ↦ rw (lt-leb v x l, lt-leb (v + 1) x (omega arith)) (left_after x v k parts.2)
+        | no l ↦
+            let rest = all_left x v k (omega arith) parts.2 in
+            let next = all_left x (v + 1) k (omega arith) parts.2 in
+            elim (ℕ_discrete x v) [
+              | yes e ↦ rw (le-leb v x (omega arith), eq-eqb x v e, lt-leb (v + 1) x (omega arith), rest) next
+              | no e ↦ rw (le-leb v x (omega arith), ne_eqb x v e, le-leb (v + 1) x (omega arith), rest, next) refl
+            ]
       ]
+
+-- ---- what is taken off the members that are left at v
+
+module _ {left : List ℕ} (v n : ℕ) (set : List ℕ) (up : ascends 0 n set ≡ true) (is : left ≡ members_from set v) where
+  taken_is : {b : Bool} → first_is left v ≡ b → (b ≡ has set v) × (cond b (drop 1 left) left ≡ members_from set (v + 1))
+  taken_is e = (sym e ∙ rw is (member_first n 0 v set up), rw (← e, is) (sym (left_after n 0 v set up)))
+
+  -- none is left
+  pub none_left : length left ≡ 0 → (false ≡ has set v) × (left ≡ members_from set (v + 1))
+  none_left h = taken_is (none_first left v h)
+
+  module _ {x : ℕ} {rest : List ℕ} (first : left ≡ x ∷ rest) where
+    -- the first of them is another
+    pub other_left : (x ≡ v → ⊥) → (false ≡ has set v) × (left ≡ members_from set (v + 1))
+    unfolding first_is
+    other_left other = taken_is (rw first (ne_eqb x v other))
+
+    -- it is v
+    pub first_taken : x ≡ v → (true ≡ has set v) × (rest ≡ members_from set (v + 1))
+    unfolding first_is
+    first_taken same = let taken = taken_is (rw first (eq-eqb x v same)) in (taken.0, rw first at taken.1)

@@ -7,14 +7,12 @@ use native.Mathlib.Omega.{arith}
 use lib.Dec.{eqb}
 use lib.ListN.{length, get_or, set, length-set}
 use lib.Seq.{sets, set-set}
-use mir.Val.{bool_byte}
 use borrow.Author.Tests.{eq-eqb, ne_eqb}
-use Rattle.laws.specs.Lists.{range, has, bit}
-use Rattle.laws.proofs.Bools.{cast_is_bit, by_test}
+use Rattle.laws.specs.Lists.{range, has}
+use Rattle.laws.proofs.Bools.{by_test}
 use Rattle.laws.proofs.Stores.{loop_turns}
 use Rattle.laws.proofs.Ranges.{entry_stored}
-use Rattle.laws.proofs.Counts.{bit_le}
-use Rattle.model.specs.File.{Tree, tree_of, demand_of, most_nodes}
+use Rattle.model.specs.File.{Tree, tree_of, demand_of}
 use Rattle.model.specs.Rules.{ascends}
 use Rattle.model.specs.Bill.{serving}
 use Rattle.model.specs.Calls.{serving_nodes}
@@ -24,8 +22,8 @@ use Rattle.model.proofs.Routes.{parent_before, by_route}
 use Rattle.model.proofs.Intervals.{parent_earlier}
 use Rattle.model.proofs.Ascending.{set_ascends}
 use Rattle.model.proofs.Nearest.{serving_server, serving_up}
-use Rattle.placement.specs.Passes.{Billable, Serving}
-use Rattle.placement.proofs.Members.{set_size, cursor_bound, cursor_begins, cursor_turns}
+use Rattle.placement.specs.Passes.{members_from, Billable, Serving}
+use Rattle.placement.proofs.Members.{all_left}
 
 module _ (t : Tree) (pre : Preorder t) (k : List ℕ) where
   serving_of_lem : (v : ℕ) → 1 ≤ v → serving t k v ≡ cond (has k v) v (serving t k (t.parent v))
@@ -60,18 +58,18 @@ module _ (file k : List ℕ) (n : ℕ) (given : Billable file n k) where
   in_tree : ascends 0 t.count k ≡ true
   in_tree = set_ascends t k given.of_nodes
 
-  pub pass_begins : (servings : List ℕ) → n ≤ length servings → Serving file n k (set servings 0 0) (set servings 0 0) 1 0
+  pub pass_begins : (servings : List ℕ) → n ≤ length servings → Serving file n k (set servings 0 0) (set servings 0 0) 1 k
   unfolding range
   pass_begins servings h = record {
     some = omega arith;
     in_file = omega (arith, all_nodes, sound.some);
     kept = refl;
     room = rw (length-set servings 0 0) h;
-    counted = sym (cursor_begins t.count 0 1 k (omega arith) in_tree);
+    still = sym (all_left t.count 0 1 k (omega arith) in_tree);
     written = rw (serving_server t sound.preorder k) (sym (set-set servings 0 0 0));
   }
 
-  module _ (before servings : List ℕ) (v cursor : ℕ) (so_far : Serving file n k before servings v cursor) (more : v < n) where
+  module _ (before servings : List ℕ) (v : ℕ) (left : List ℕ) (so_far : Serving file n k before servings v left) (more : v < n) where
     -- the parent has its serving node
     pub pass_parent : (p : ℕ) → p ≡ t.parent v → p < v
     pass_parent p e = omega (arith, parent_earlier t sound.preorder v so_far.some)
@@ -83,18 +81,14 @@ module _ (file k : List ℕ) (n : ℕ) (given : Billable file n k) where
         rw (so_far.written, e) (entry_stored before (serving t k) v (t.parent v) (omega arith) (parent_earlier t sound.preorder v so_far.some)) in
         rw (is_member, read) at is ∙ sym (serving_of_lem t sound.preorder k v so_far.some)
 
-    pub pass_cursor : (member : Bool) → cursor + bool_byte member ≤ most_nodes
-    pass_cursor member =
-        omega (arith, so_far.counted, cursor_bound k v, set_size t.count 0 k sound.some in_tree, sound.few, cast_is_bit member, bit_le member)
-
     pub pass_turns : (p x : ℕ) (member : Bool) → p ≡ t.parent v → member ≡ has k v → x ≡ cond member v (get_or servings p 0)
-        → Serving file n k before (set servings v x) (v + 1) (cursor + bool_byte member)
-    pass_turns p x member e is_member is = record {
+        → {left' : List ℕ} → left' ≡ members_from k (v + 1) → Serving file n k before (set servings v x) (v + 1) left'
+    pass_turns p x member e is_member is still = record {
       some = omega arith;
       in_file = omega arith;
       kept = length-set servings v x ∙ so_far.kept;
       room = rw (length-set servings v x) so_far.room;
-      counted = omega (arith, so_far.counted, cast_is_bit member, ap bit is_member, cursor_turns t.count 0 v k in_tree);
+      still = still;
       written = loop_turns before 0 (serving t k) v so_far.written (omega arith) (pass_serving p x member e is_member is);
     }
 
@@ -105,8 +99,8 @@ module _ (file k : List ℕ) (n : ℕ) (given : Billable file n k) where
   first_twice servings zero h = absurd (omega arith)
   first_twice servings (suc m) h = ap (λ l. sets l 1 (map (serving t k) (range 1 m))) (set-set servings 0 0 (serving t k 0))
 
-  pub pass_ends : (before servings : List ℕ) (v cursor : ℕ) → Serving file n k (set before 0 0) servings v cursor → n ≤ v
+  pub pass_ends : (before servings : List ℕ) (v : ℕ) (left : List ℕ) → Serving file n k (set before 0 0) servings v left → n ≤ v
       → servings ≡ sets before 0 (serving_nodes file k)
-  pass_ends before servings v cursor so_far h =
+  pass_ends before servings v left so_far h =
       let whole : v ≡ t.count = omega (arith, so_far.in_file, all_nodes) in
       so_far.written ∙ first_twice before v so_far.some ∙ ap (λ (m : ℕ). sets before 0 (map (serving t k) (range 0 m))) whole

@@ -10,9 +10,14 @@ use Rattle.laws.specs.Lists.{range, has}
 use Rattle.laws.proofs.Lists.{has_those, in_range}
 use Rattle.model.specs.File.{Tree, Demand, tree_of, demand_of}
 use Rattle.placement.specs.Passes.{self_serving, Walkable}
+use Rattle.placement.specs.declared.Served.{Served}
 use Rattle.placement.specs.Walks.{Begins, NodeWalked, RowWalked, RowUpTo, Bounded, Raised}
 use Rattle.placement.proofs.Walks.{walked_kept, row_begins, row_starts, row_at_end, row_stops, row_goes_on, node_walked}
 use Rattle.placement.proofs.Sizes.{relief_bound, node_load_bound, row_load_bound}
+
+-- what the walks may assume
+pub walks_here : (s : Served) {loads : List ℕ} → s.n ≤ length loads → Walkable s.file.now s.n s.servings.now loads
+walks_here s h = record { of_file = s.of_file; servings_long = s.servings_long; loads_long = h }
 
 -- a site is a member just if it serves itself
 pub self_serving_member : (n : ℕ) (servings : List ℕ) (v : ℕ) → 1 ≤ v → v < n → eqb (get_or servings v 0) v ≡ has (self_serving n servings) v
@@ -30,10 +35,6 @@ module _ {file servings loads : List ℕ} {n : ℕ} (given : Walkable file n ser
 
   abbrev k : List ℕ
   k = self_serving n servings
-
-  -- with the loads that a walk has left
-  still_walkable : {loads' : List ℕ} → length loads' ≡ length loads → Walkable file n servings loads'
-  still_walkable e = record { of_file = given.of_file; servings_long = given.servings_long; loads_long = omega (arith, given.loads_long) }
 
   -- ---- node v
 
@@ -60,8 +61,9 @@ module _ {file servings loads : List ℕ} {n : ℕ} (given : Walkable file n ser
   row_opens b = row_starts t d k given.of_file.sound.preorder loads b
 
   module _ {loads' : List ℕ} {v i e load relief : ℕ} (w : RowUpTo t d k loads v i e load relief loads') where
-    pub row_walkable : Walkable file n servings loads'
-    row_walkable = still_walkable (walked_kept t d k w.walked)
+    -- no load comes or goes
+    pub row_kept : n ≤ length loads'
+    row_kept = omega (arith, walked_kept t d k w.walked, given.loads_long)
 
     -- the file ends
     pub row_over : n ≤ e → RowWalked t d k loads v i e load relief loads'

@@ -44,9 +44,6 @@ module _ {file k servings loads : List ℕ} {n : ℕ} (given : Billable file n k
         same_members n 0 (self_serving n servings') k (ascends_those n _ 0 (range 1 (n - 1)) (ascends_range n 0 (n - 1) (omega arith))) (rw all (set_ascends t k given.of_nodes))
         (λ v z h. sym (self_serving_member n servings' v z h) ∙ ap (λ (x : ℕ). eqb x v) (entry v (omega arith)) ∙ member_by_serving t sound.preorder k v z)
 
-    pub servings_walkable : length servings' ≡ length servings → Walkable file n servings' loads
-    servings_walkable e = record { of_file = room.of_file; servings_long = omega (arith, room.servings_long); loads_long = room.loads_long }
-
     module _ {loads' : List ℕ} {e load relief : ℕ} (row : RowWalked t d (self_serving n servings') loads 0 1 e load relief loads') where
       loads_are_lem : set loads' 0 0 ≡ sets loads 0 (link_loads file k)
       loads_are_lem = rw servings_tell at (all_walked t d (self_serving n servings') sound.preorder row)

@@ -1,7 +1,7 @@
--- What the passes over the nodes may assume, and what they keep: the cursor in a set, and the total so far.
-use Rattle.std.specs.Prelude.{◌≡◌, true, List, map, ℕ, ◌*◌, ◌-◌, ◌≤◌, ◌<◌, ltb, eqb, length, get_or}
+-- What the passes over the nodes may assume, and what they keep: the members that are left, and the total so far.
+use Rattle.std.specs.Prelude.{◌≡◌, true, List, map, ℕ, ◌*◌, ◌-◌, ◌≤◌, ◌<◌, leb, eqb, length, get_or}
 use Rattle.std.proofs.lemmas.List.Edits.{sets}
-use Rattle.laws.specs.Lists.{range, sum, how_many, those}
+use Rattle.laws.specs.Lists.{range, sum, those}
 use Rattle.model.specs.File.{Tree, header_length, tree_of, demand_of, count_of}
 use Rattle.model.specs.Rules.{is_set}
 use Rattle.model.specs.Bill.{serving}
@@ -21,17 +21,17 @@ pub record Billable (file : List ℕ) (n : ℕ) (set : List ℕ) : Type 0 where
   pub of_file : AcceptedFile file n
   pub of_nodes : is_set (tree_of file) set ≡ true
 
--- the cursor at v: how many members come before v
-unfoldable pub members_before : List ℕ → ℕ → ℕ
-members_before k v = how_many (λ u. ltb u v) k
+-- the members that are left at v: those from v on
+unfoldable pub members_from : List ℕ → ℕ → List ℕ
+members_from k v = those (λ u. leb v u) k
 
 -- the pass of the serving nodes at v: those of the nodes before v are written
-pub record Serving (file : List ℕ) (n : ℕ) (k before servings : List ℕ) (v cursor : ℕ) : Type 0 where
+pub record Serving (file : List ℕ) (n : ℕ) (k before servings : List ℕ) (v : ℕ) (left : List ℕ) : Type 0 where
   pub some : 1 ≤ v
   pub in_file : v ≤ n
   pub kept : length servings ≡ length before
   pub room : n ≤ length servings
-  pub counted : cursor ≡ members_before k v
+  pub still : left ≡ members_from k v
   pub written : servings ≡ sets before 0 (map (serving (tree_of file) k) (range 0 v))
 
 -- the set, found from the serving nodes: the sites that serve themselves

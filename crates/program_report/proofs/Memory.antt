@@ -1,5 +1,5 @@
 -- Within the limits of rule 15 the program's own memory passes rules 13 and 14.
-use mathlib.Core.Path.{◌≡◌, ap, ◌∙◌}
+use mathlib.Core.Path.{◌≡◌, refl, ap, ◌∙◌}
 use mathlib.Core.Bool.{true, ◌&&◌}
 use mathlib.Core.List.{List}
 use Prim.Native.Nat.{ℕ, suc, ◌*◌, ◌≤◌}
@@ -8,6 +8,7 @@ use native.Mathlib.Omega.{arith}
 use lib.Dec.{leb}
 use lib.ListN.{length}
 use borrow.Author.Tests.{leb-true, le-leb}
+use Rattle.std.specs.Prelude.{Result, Ok, Err, ⊤, IsOk}
 use Rattle.laws.proofs.Bools.{both}
 use Rattle.model.specs.File.{tree_of, count_of, budget_of}
 use Rattle.model.specs.Tree.{height}
@@ -16,6 +17,9 @@ use Rattle.model.specs.Calls.{after, plan_totals, plan_rows, greedy_totals}
 use Rattle.model.specs.Report.{program_nodes, program_height, program_budget, is_small, ReportMemory, report_verdict, ReportCall}
 use Rattle.model.proofs.Words.{words_within}
 use Rattle.model.proofs.Reported.{report_passes_lem}
+use Rattle.model.proofs.Verdicts.{broken≢passed}
+use Rattle.tree_file.specs.declared.rules.Refusal.{Refusal}
+use Rattle.tree_file.specs.Refusals.{verdict_of}
 use Rattle.program_report.specs.Memory.{program_scratch}
 use Rattle.program_report.specs.declared.Report.{Report}
 
@@ -74,3 +78,8 @@ module _ (file : List ℕ) {memory memory' : ReportMemory} {v : Verdict} (call :
         rows = (call.plan_rows_after ∙ ap (λ u. after u (plan_rows file) memory.plan_rows) e) i;
         greedy_totals = (call.greedy_totals_after ∙ ap (λ u. after u (greedy_totals file) memory.greedy_totals) e) i;
       }
+
+-- a ruling that passes is no refusal
+pub is_unrefused : (r : Result ⊤ Refusal) → verdict_of r ≡ passed → IsOk r
+is_unrefused (Ok x) e = refl
+is_unrefused (Err d) e = absurd (broken≢passed e)

@@ -8,7 +8,8 @@ ghost use Rattle.model.specs.Report.{first_look, program_nodes, program_height, 
 ghost use Rattle.tree_file.specs.Checks.{answer_of, sizes_of};
 ghost use Rattle.program_report.specs.Memory.{report_of};
 
-use tree_file::Checked;
+use fields::Tree;
+use tree_file::{Refusal, Rule};
 
 // The program looks at so many bytes of its input.
 pub const FIRST_LOOK: usize = 842;
@@ -36,38 +37,23 @@ pub struct Report {
 }
 
 // The rest of rule 15.
-fn is_small(tree: fields::Tree) -> bool
+fn is_small(tree: Tree) -> bool
     ensures { result ≡ (leb tree.nodes program_nodes && leb tree.height program_height && leb tree.budget program_budget) }
 {
-    if NODES < tree.nodes {
-        return false;
-    }
-    if HEIGHT < tree.height {
-        return false;
-    }
-    tree.budget <= BUDGET
+    tree.nodes <= NODES && tree.height <= HEIGHT && tree.budget <= BUDGET
 }
 
 // The rules about the file and rule 15, of the program's input; n, k and h where they hold.
-pub fn check(input: &[u8]) -> Checked
+pub fn check(input: &[u8]) -> Result<Tree, Refusal>
     ensures { answer_of result ≡ answer (program_verdict (take first_look input.now)) (sizes_of input.now) }
 {
-    if FIRST_LOOK <= input.len() {
-        return Checked::Refused(15, 0);
-    }
-    let checked = tree_file::check(input);
-    match checked {
-        Checked::Accepted(tree) => {
-            if !is_small(tree) {
-                return Checked::Refused(15, 0);
-            }
-            Checked::Accepted(tree)
-        }
-        Checked::Refused(q, record) => Checked::Refused(q, record),
-    }
+    Rule::Program.ask(input.len() < FIRST_LOOK)?;
+    let tree = tree_file::check(input)?;
+    Rule::Program.ask(is_small(tree))?;
+    Ok(tree)
 }
 
-// The report of a file that the program accepts. Its memory passes rules 13 and 14.
+// The report of a file that the program accepts. Its memory passes rules 13 and 14, so no rule refuses.
 pub fn report_of(file: &[u8]) -> Report
     requires { program_verdict file.now ≡ passed }
     ensures { result ≡ report_of file.now }
@@ -77,7 +63,7 @@ pub fn report_of(file: &[u8]) -> Report
     let mut rows = [0u16; ROWS];
     let mut greedy_totals = [0u64; TOTALS];
     let mut greedy_nodes = [0u16; BUDGET];
-    report::report(
+    let ruling = report::report(
         file,
         &mut scratch,
         &mut totals,
@@ -85,6 +71,7 @@ pub fn report_of(file: &[u8]) -> Report
         &mut greedy_totals,
         &mut greedy_nodes,
     );
+    ruling.unwrap();
     Report {
         totals,
         rows,

@@ -6,387 +6,254 @@
 // how many rankings were of two sets with equal totals, and how many refusals by rule 12 there were.
 #![tactic(auto)]
 
+ghost use Rattle.std.specs.Prelude.{◌≤◌};
+
 use compare::Ranking;
-use placement::Billed;
-use small_trees::SmallTree;
+use small_plans::Bill;
+use small_trees::{Nodes, SmallTree};
 use std::io;
-use std::io::{BufWriter, Write};
+use std::io::Write;
+use std::ops::Range;
+use tree_file::{Refusal, Rule};
+use tree_sequence::Case;
+use units::Total;
+
+// The refusal of a set that is not one of the tree's.
+const NO_SET: Refusal = Refusal {
+    rule: Rule::Set,
+    record: 0,
+};
+
+// A set as a row of its nodes.
+#[derive(Drop)]
+struct Row {
+    space: [u16; 6],
+    size: usize,
+    ghost size_within_space: { size ≤ 6 },
+}
+
+impl Row {
+    fn of(set: Nodes) -> Row {
+        let mut space = [0; 6];
+        let size = set.write(&mut space);
+        Row { space, size }
+    }
+
+    fn nodes(&self) -> &[u16] {
+        &self.space[..self.size]
+    }
+}
+
+// ---- the counts
+
+// How many rankings were compared, how many of these were of two sets with equal totals, and how many refusals by rule 12 there
+// were.
+#[derive(Default, Drop)]
+struct Count {
+    rankings: u64,
+    ties: u64,
+    refusals: u64,
+}
+
+impl Count {
+    // Two rankings more, of two sets whose totals are equal or not.
+    fn add_rankings(&mut self, tied: bool) {
+        self.rankings = self.rankings.wrapping_add(2);
+        if tied {
+            self.ties = self.ties.wrapping_add(2);
+        }
+    }
+
+    // A wrong set more, with the refusals of a bill and of two rankings.
+    fn add_refusals(&mut self) {
+        self.refusals = self.refusals.wrapping_add(3);
+    }
+}
 
 // ---- the bill of a set
 
-fn has_total(bill: Billed, total: u64) -> bool {
-    match bill {
-        Billed::Total(sum) => sum.0 == total,
-        Billed::Refused(_, _) => false,
-    }
-}
-
-fn check_node<W: Write>(
-    out: &mut W,
-    i: u64,
-    tree: SmallTree,
-    set: u8,
-    v: usize,
-    servings: &[u16],
-    loads: &[u64],
-) -> io::Result<()> {
-    if trial_buffers::node_at(servings, v) != small_plans::serving(tree, set, v) {
-        trial_text::print_difference(out, i, v, b" serving node")?;
-    }
-    if trial_buffers::total_at(loads, v) != small_plans::load(tree, set, v) {
-        trial_text::print_difference(out, i, v, b" load")?;
-    }
-    Ok(())
-}
-
-// What the bill says of each node.
-fn check_nodes<W: Write>(
-    out: &mut W,
-    i: u64,
-    tree: SmallTree,
-    set: u8,
-    servings: &[u16],
-    loads: &[u64],
-) -> io::Result<()> {
-    let mut v = 0;
-    while v < tree.nodes {
-        check_node(out, i, tree, set, v, servings, loads)?;
-        v += 1;
-    }
-    Ok(())
-}
-
-fn check_bill<W: Write>(
-    out: &mut W,
-    i: u64,
-    tree: SmallTree,
-    set: u8,
-    file: &[u8],
-) -> io::Result<()> {
-    let mut nodes = [0u16; 6];
-    let m = small_trees::write_set(set, &mut nodes);
+// The total, and what the bill says of each node.
+fn check_bill<W: Write>(out: &mut W, case: &Case, set: Nodes) -> io::Result<()> {
+    let bill = Bill {
+        tree: &case.tree,
+        set,
+    };
     let mut servings = [7u16; 6];
     let mut loads = [7u64; 6];
-    let bill = placement::bill(file, &nodes[0..m], &mut servings, &mut loads);
-    if !has_total(bill, small_plans::total(tree, set)) {
-        trial_text::print_difference(out, i, 0, b" bill's total")?;
+    let answer = placement::bill(case.file(), Row::of(set).nodes(), &mut servings, &mut loads);
+    if answer != Ok(Total(bill.total())) {
+        trial_text::print_difference(out, case.number, 0, b" bill's total")?;
     }
-    if small_plans::loads_by_lengths(tree, set) != small_plans::total(tree, set) {
-        trial_text::print_difference(out, i, 0, b" loads by lengths")?;
+    if bill.loads_by_lengths() != bill.total() {
+        trial_text::print_difference(out, case.number, 0, b" loads by lengths")?;
     }
-    check_nodes(out, i, tree, set, &servings, &loads)
-}
-
-// Is a bill refused by rule 12?
-fn has_no_bill(bill: Billed) -> bool {
-    match bill {
-        Billed::Refused(rule, record) => { if rule == 12 { record == 0 } else { false } }
-        Billed::Total(_) => false,
+    for v in 0..case.tree.nodes {
+        if servings.get(v).copied().map(usize::from) != Some(bill.serving(v)) {
+            trial_text::print_difference(out, case.number, v, b" serving node")?;
+        }
+        if loads.get(v).copied() != Some(bill.load(v)) {
+            trial_text::print_difference(out, case.number, v, b" load")?;
+        }
     }
+    Ok(())
 }
 
 // A set that is not one of the tree's gets no bill, and the buffers stay as they were.
-fn check_no_bill<W: Write>(out: &mut W, i: u64, file: &[u8], wrong: &[u16]) -> io::Result<()> {
+fn check_no_bill<W: Write>(out: &mut W, case: &Case, wrong: &[u16]) -> io::Result<()> {
     let mut servings = [7u16; 6];
     let mut loads = [7u64; 6];
-    if !has_no_bill(placement::bill(file, wrong, &mut servings, &mut loads)) {
-        trial_text::print_difference(
-            out,
-            i,
-            small_trees::set_of(wrong) as usize,
-            b" refusal of the bill",
-        )?;
+    let mask = usize::from(Nodes::of_row(wrong).0);
+    let answer = placement::bill(case.file(), wrong, &mut servings, &mut loads);
+    if answer != Err(NO_SET) {
+        trial_text::print_difference(out, case.number, mask, b" refusal of the bill")?;
     }
-    if !trial_buffers::all_nodes_from(&servings, 0, 7) {
-        trial_text::print_difference(
-            out,
-            i,
-            small_trees::set_of(wrong) as usize,
-            b" serving node of a refusal",
-        )?;
+    if servings != [7; 6] {
+        trial_text::print_difference(out, case.number, mask, b" serving node of a refusal")?;
     }
-    if !trial_buffers::all_from(&loads, 0, 7) {
-        trial_text::print_difference(
-            out,
-            i,
-            small_trees::set_of(wrong) as usize,
-            b" load of a refusal",
-        )?;
+    if loads != [7; 6] {
+        trial_text::print_difference(out, case.number, mask, b" load of a refusal")?;
     }
     Ok(())
 }
 
 // ---- the ranking of two sets
 
-// Does a ranking name the first set, if that one ranks first, and else the second?
-fn names(ranking: Ranking, first: bool) -> bool {
-    match ranking {
-        Ranking::First => first,
-        Ranking::Second => !first,
-        Ranking::Refused(_, _) => false,
+// The ranking of two sets, and the set handed back.
+fn check_ranking<W: Write>(out: &mut W, case: &Case, one: Nodes, other: Nodes) -> io::Result<()> {
+    let one_row = Row::of(one);
+    let other_row = Row::of(other);
+    let first = one_row.nodes();
+    let second = other_row.nodes();
+    let leads = small_plans::ranks_first(&case.tree, one, other);
+    let (best, named) = if leads {
+        (first, Ranking::First)
+    } else {
+        (second, Ranking::Second)
+    };
+    let mask = usize::from(Nodes::of_row(second).0);
+    if compare::rank(case.file(), first, second) != Ok(named) {
+        trial_text::print_difference(out, case.number, mask, b" ranking")?;
     }
-}
-
-// Is a ranking refused by rule 12?
-fn is_refused(ranking: Ranking) -> bool {
-    match ranking {
-        Ranking::Refused(rule, record) => { if rule == 12 { record == 0 } else { false } }
-        _ => false,
-    }
-}
-
-// The ranking of two sets, and the set handed back, where the reference says whether the first ranks first.
-fn check_pair<'a, W: Write>(
-    out: &mut W,
-    i: u64,
-    file: &[u8],
-    first: &'a [u16],
-    second: &'a [u16],
-    leads: bool,
-) -> io::Result<()> {
-    let best = if leads { first } else { second };
-    if !names(compare::rank(file, first, second), leads) {
-        trial_text::print_difference(out, i, small_trees::set_of(second) as usize, b" ranking")?;
-    }
-    if !trial_buffers::same_nodes(compare::winner(file, first, second), best) {
-        trial_text::print_difference(out, i, small_trees::set_of(second) as usize, b" winner")?;
+    if compare::winner(case.file(), first, second) != best {
+        trial_text::print_difference(out, case.number, mask, b" winner")?;
     }
     Ok(())
 }
 
-fn check_ranking<W: Write>(
-    out: &mut W,
-    i: u64,
-    tree: SmallTree,
-    one: u8,
-    other: u8,
-    file: &[u8],
-) -> io::Result<()> {
-    let mut first = [0u16; 6];
-    let a = small_trees::write_set(one, &mut first);
-    let mut second = [0u16; 6];
-    let b = small_trees::write_set(other, &mut second);
-    let leads = small_plans::ranks_first(tree, one, other);
-    check_pair(out, i, file, &first[0..a], &second[0..b], leads)
-}
-
-// How many trees were gone through, how many rankings were compared, how many of these were of two sets with equal totals, and
-// how many refusals by rule 12 there were.
-#[derive(Clone, Copy)]
-struct Count {
-    trees: u64,
-    rankings: u64,
-    ties: u64,
-    refusals: u64,
-}
-
-const NO_COUNT: Count = Count {
-    trees: 0,
-    rankings: 0,
-    ties: 0,
-    refusals: 0,
-};
-
-// A tree more.
-fn with_tree(so_far: Count) -> Count {
-    Count {
-        trees: std::num::wrapping_add_u64(so_far.trees, 1),
-        rankings: so_far.rankings,
-        ties: so_far.ties,
-        refusals: so_far.refusals,
-    }
-}
-
-// 2 for two sets with equal totals, else 0.
-fn ties_of(tree: SmallTree, one: u8, other: u8) -> u64 {
-    if one == other {
-        return 0;
-    }
-    if small_plans::total(tree, one) == small_plans::total(tree, other) {
-        return 2;
-    }
-    0
-}
-
-// Two rankings more, of these two sets.
-fn counted(so_far: Count, tree: SmallTree, one: u8, other: u8) -> Count {
-    Count {
-        trees: so_far.trees,
-        rankings: std::num::wrapping_add_u64(so_far.rankings, 2),
-        ties: std::num::wrapping_add_u64(so_far.ties, ties_of(tree, one, other)),
-        refusals: so_far.refusals,
-    }
-}
-
-// A wrong set more, with the refusals of a bill and of two rankings.
-fn with_refusals(so_far: Count) -> Count {
-    Count {
-        trees: so_far.trees,
-        rankings: so_far.rankings,
-        ties: so_far.ties,
-        refusals: std::num::wrapping_add_u64(so_far.refusals, 3),
-    }
+// Have two different sets equal totals?
+fn are_tied(tree: &SmallTree, one: Nodes, other: Nodes) -> bool {
+    one != other && (Bill { tree, set: one }).total() == (Bill { tree, set: other }).total()
 }
 
 // Every set of the tree's nodes against this one, both ways round.
 fn check_rankings<W: Write>(
     out: &mut W,
-    i: u64,
-    tree: SmallTree,
-    set: u8,
-    file: &[u8],
-    so_far: Count,
-) -> io::Result<Count> {
-    let mut count = so_far;
-    let mut mask = 0;
-    while mask < 64 {
-        if small_plans::is_choice(tree, mask, 6) {
-            check_ranking(out, i, tree, set, mask, file)?;
-            check_ranking(out, i, tree, mask, set, file)?;
-            count = counted(count, tree, set, mask);
-        }
-        mask += 1;
+    case: &Case,
+    set: Nodes,
+    count: &mut Count,
+) -> io::Result<()> {
+    for other in (0..64)
+        .map(Nodes)
+        .filter(|other| small_plans::is_choice(&case.tree, *other, 6))
+    {
+        check_ranking(out, case, set, other)?;
+        check_ranking(out, case, other, set)?;
+        count.add_rankings(are_tied(&case.tree, set, other));
     }
-    Ok(count)
+    Ok(())
 }
 
 // A set that is not one of the tree's has no bill and no rank, be it first or second, and nothing is handed back.
-fn check_refusals<'a, W: Write>(
+fn check_refusals<W: Write>(
     out: &mut W,
-    i: u64,
-    file: &[u8],
-    set: &'a [u16],
-    wrong: &'a [u16],
+    case: &Case,
+    set: &[u16],
+    wrong: &[u16],
+    count: &mut Count,
 ) -> io::Result<()> {
-    check_no_bill(out, i, file, wrong)?;
-    if !is_refused(compare::rank(file, wrong, set)) {
-        trial_text::print_difference(out, i, 0, b" refusal of the first set")?;
+    let file = case.file();
+    check_no_bill(out, case, wrong)?;
+    if compare::rank(file, wrong, set) != Err(NO_SET) {
+        trial_text::print_difference(out, case.number, 0, b" refusal of the first set")?;
     }
-    if !is_refused(compare::rank(file, set, wrong)) {
-        trial_text::print_difference(out, i, 0, b" refusal of the second set")?;
+    if compare::rank(file, set, wrong) != Err(NO_SET) {
+        trial_text::print_difference(out, case.number, 0, b" refusal of the second set")?;
     }
-    if compare::winner(file, wrong, set).len() != 0 {
-        trial_text::print_difference(out, i, 0, b" winner of a refusal")?;
+    if !compare::winner(file, wrong, set).is_empty() {
+        trial_text::print_difference(out, case.number, 0, b" winner of a refusal")?;
     }
+    count.add_refusals();
     Ok(())
 }
 
 // The server, and a node that the tree lacks, beside a set of the tree.
 fn check_wrong_sets<W: Write>(
     out: &mut W,
-    i: u64,
-    tree: SmallTree,
-    one: u8,
-    file: &[u8],
-    so_far: Count,
-) -> io::Result<Count> {
-    let mut set = [0u16; 6];
-    let a = small_trees::write_set(one, &mut set);
-    let server = [0u16];
-    let beyond = [(tree.nodes % 65536) as u16];
-    check_refusals(out, i, file, &set[0..a], &server)?;
-    check_refusals(out, i, file, &set[0..a], &beyond)?;
-    Ok(with_refusals(with_refusals(so_far)))
+    case: &Case,
+    set: Nodes,
+    count: &mut Count,
+) -> io::Result<()> {
+    let row = Row::of(set);
+    let beyond = (case.tree.nodes % 65536) as u16;
+    check_refusals(out, case, row.nodes(), &[0], count)?;
+    check_refusals(out, case, row.nodes(), &[beyond], count)
 }
 
-// A set with a closed node, beside a set of the tree.
-fn check_closed_set<W: Write>(
-    out: &mut W,
-    i: u64,
-    one: u8,
-    wrong: u8,
-    file: &[u8],
-    so_far: Count,
-) -> io::Result<Count> {
-    let mut set = [0u16; 6];
-    let a = small_trees::write_set(one, &mut set);
-    let mut other = [0u16; 6];
-    let b = small_trees::write_set(wrong, &mut other);
-    check_refusals(out, i, file, &set[0..a], &other[0..b])?;
-    Ok(with_refusals(so_far))
-}
-
-// Does the tree have node v, and is it closed?
-fn is_closed(tree: SmallTree, v: usize) -> bool {
-    if v < tree.nodes {
-        return !small_trees::record_of(tree, v).open;
-    }
-    false
-}
-
-// Each closed node, alone and with the nodes of a set.
+// Each closed node, alone and with the nodes of a set, beside that set of the tree.
 fn check_closed_nodes<W: Write>(
     out: &mut W,
-    i: u64,
-    tree: SmallTree,
-    one: u8,
-    file: &[u8],
-    so_far: Count,
-) -> io::Result<Count> {
-    let mut count = so_far;
-    let mut v = 1;
-    while v < 6 {
-        if is_closed(tree, v) {
-            count = check_closed_set(out, i, one, small_trees::only(v), file, count)?;
-            count = check_closed_set(out, i, one, small_trees::with(one, v), file, count)?;
-        }
-        v += 1;
+    case: &Case,
+    set: Nodes,
+    count: &mut Count,
+) -> io::Result<()> {
+    let row = Row::of(set);
+    for v in (1..case.tree.nodes.min(6)).filter(|v| !case.tree.record(*v).open) {
+        check_refusals(
+            out,
+            case,
+            row.nodes(),
+            Row::of(Nodes::only(v)).nodes(),
+            count,
+        )?;
+        check_refusals(out, case, row.nodes(), Row::of(set.with(v)).nodes(), count)?;
     }
-    Ok(count)
+    Ok(())
 }
 
 // ---- the trees
 
-// The set of tree i that all others are ranked against: the plan's, or in each second dozen of trees one that changes from tree
-// to tree, empty where the tree lacks a node of it.
-fn ranked_set(tree: SmallTree, i: u64, plan: u8) -> u8 {
-    let mask = (i / 24 % 32 * 2) as u8;
-    if i / 12 % 2 == 0 {
-        return plan;
+// The set that all others are ranked against: the plan's, or in each second dozen of trees one that changes from tree to tree,
+// empty where the tree lacks a node of it.
+fn ranked_set(case: &Case, plan: Nodes) -> Nodes {
+    let set = Nodes((case.number / 24 % 32 * 2) as u8);
+    if case.number / 12 % 2 == 0 {
+        plan
+    } else if small_plans::is_choice(&case.tree, set, 6) {
+        set
+    } else {
+        Nodes::NONE
     }
-    if small_plans::is_choice(tree, mask, 6) {
-        return mask;
-    }
-    0
 }
 
-fn check_tree<W: Write>(out: &mut W, i: u64, tree: SmallTree, so_far: Count) -> io::Result<Count> {
-    let mut space = [0u8; 87];
-    let n = small_trees::write_file(tree, &mut space);
-    let file = &space[0..n];
-    let plan = small_plans::plan(tree, tree.budget);
-    check_bill(out, i, tree, plan, file)?;
-    check_bill(out, i, tree, small_plans::greedy(tree, tree.budget), file)?;
-    let with_wrong = check_wrong_sets(out, i, tree, plan, file, with_tree(so_far))?;
-    let with_closed = check_closed_nodes(out, i, tree, plan, file, with_wrong)?;
-    check_rankings(out, i, tree, ranked_set(tree, i, plan), file, with_closed)
+fn check_tree<W: Write>(out: &mut W, case: &Case, count: &mut Count) -> io::Result<()> {
+    let plan = small_plans::plan(&case.tree, case.tree.budget);
+    check_bill(out, case, plan)?;
+    check_bill(out, case, small_plans::greedy(&case.tree, case.tree.budget))?;
+    check_wrong_sets(out, case, plan, count)?;
+    check_closed_nodes(out, case, plan, count)?;
+    check_rankings(out, case, ranked_set(case, plan), count)
 }
 
-// The trees of these numbers.
-fn check_trees<W: Write>(out: &mut W, first: u64, end: u64) -> io::Result<Count> {
-    let mut count = NO_COUNT;
-    let mut i = first;
-    while i < end {
-        if tree_sequence::has_tree(i) {
-            count = check_tree(out, i, tree_sequence::nth_tree(i), count)?;
-        }
-        i += 1;
-    }
-    Ok(count)
-}
-
-fn print_count<W: Write>(out: &mut W, what: &[u8], count: Count) -> io::Result<()> {
-    trial_text::print_count(out, what, count.trees)?;
+// The trees of these numbers, with lines of how many there are and what was counted.
+fn check_trees<W: Write>(out: &mut W, numbers: Range<u64>, what: &[u8]) -> io::Result<()> {
+    let mut count = Count::default();
+    let trees = tree_sequence::each_tree(numbers, |case| check_tree(out, case, &mut count))?;
+    trial_text::print_count(out, what, trees)?;
     trial_text::print_count(out, b"rankings", count.rankings)?;
     trial_text::print_count(out, b"rankings of sets with equal totals", count.ties)?;
     trial_text::print_count(out, b"refusals by rule 12", count.refusals)
 }
 
 fn main(rt: HostRuntime) -> io::Result<()> {
-    let mut out = BufWriter::new(rt.alloc(), io::writer(&rt))?;
-    let trees = check_trees(&mut out, 0, tree_sequence::TREES)?;
-    print_count(&mut out, b"trees", trees)?;
-    let patterns = check_trees(&mut out, tree_sequence::TREES, tree_sequence::END)?;
-    print_count(&mut out, b"patterns of closed nodes", patterns)?;
-    out.flush()
+    tree_sequence::check_parts(&rt, check_trees)
 }

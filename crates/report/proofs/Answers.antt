@@ -9,13 +9,18 @@ use lib.Seq.{sets}
 use Rattle.laws.specs.Fronts.{FrontOnly}
 use Rattle.laws.proofs.Bools.{both}
 use Rattle.laws.proofs.Fronts.{front_only_then, front_only_wider}
-use Rattle.model.specs.Rules.{passed, broken, scratch_words}
+use Rattle.model.specs.Rules.{passed, broken, ask, scratch_words}
 use Rattle.model.specs.Calls.{answered, refused, answer, plan_totals, plan_rows, PlanMemory, GreedyMemory}
 use Rattle.model.specs.Report.{ReportMemory, report_buffers_long, report_verdict, ReportCall}
 use Rattle.model.proofs.Verdicts.{broken≢passed}
 use Rattle.model.proofs.Reported.{report_meets_demand}
 use Rattle.fields.specs.declared.Tree as code
+use Rattle.std.specs.Prelude.{Result, ⊤}
+use Rattle.std.specs.Result.{IsErrAnd}
+use Rattle.tree_file.specs.declared.rules.Refusal.{Refusal}
+use Rattle.tree_file.specs.Refusals.{broken_by, verdict_of}
 use Rattle.tree_file.specs.Checks.{sizes_of}
+use Rattle.tree_file.proofs.Rulings.{refused_as}
 use Rattle.lent.specs.Lent.{lent_verdict}
 use Rattle.lent.proofs.Asked.{lent_told, lent_room_lem, refused_before_buffers, buffers_decide}
 use Rattle.optimum.proofs.Answers.{plan_long_lem, totals_after_lem, rows_after_lem}
@@ -43,23 +48,24 @@ both_written {file} {sizes} l f t r ran =
 -- ---- each answer
 
 module _ (file : List ℕ) (memory : ReportMemory) where
-  refused_whole : {q i : ℕ} → broken q i ≡ report_verdict file memory → ReportCall file memory (broken q i) memory
-  refused_whole e =
-      record {
-        verdict = e;
+  -- a refusal changes nothing
+  pub report_refused : (r : Result ⊤ Refusal) (e : Refusal) → IsErrAnd r (λ y. y ≡ e) → broken_by e ≡ report_verdict file memory
+      → ReportCall file memory (verdict_of r) memory
+  report_refused r e h k =
+      rw (refused_as r e h refl) (record {
+        verdict = k;
         scratch_after = refl;
         plan_totals_after = refl;
         plan_rows_after = refl;
         greedy_totals_after = refl;
         greedy_nodes_after = refl;
         demand_three = λ passes. absurd (broken≢passed passes);
-      }
+      })
 
   -- the rules before rule 14 refuse
-  pub report_refused_lem : {q i : ℕ} → refused q i ≡ answer (lent_verdict file (length memory.scratch)) (sizes_of file)
-      → ReportCall file memory (broken q i) memory
+  pub report_before_buffers : {q i : ℕ} → refused q i ≡ answer (lent_verdict file (length memory.scratch)) (sizes_of file) → broken q i ≡ report_verdict file memory
   unfolding report_verdict
-  report_refused_lem e = refused_whole (refused_before_buffers file memory.scratch (report_buffers_long file memory) e)
+  report_before_buffers e = refused_before_buffers file memory.scratch (report_buffers_long file memory) e
 
   module _ {sizes : code.Tree} (e : answered sizes ≡ answer (lent_verdict file (length memory.scratch)) (sizes_of file)) where
     -- rule 14, as it is asked with the sizes found
@@ -73,9 +79,9 @@ module _ (file : List ℕ) (memory : ReportMemory) where
     long_is : {b : Bool} → (plan_fits && greedy_fits) ≡ b → report_buffers_long file memory ≡ b
     long_is h = rw (lent_told file e).2 at h
 
-    pub report_short : (plan_fits && greedy_fits) ≡ false → ReportCall file memory (broken 14 0) memory
+    pub report_asks_buffers : ask 14 0 (plan_fits && greedy_fits) ≡ report_verdict file memory
     unfolding report_verdict
-    report_short h = refused_whole (buffers_decide file memory.scratch _ e (long_is h))
+    report_asks_buffers = buffers_decide file memory.scratch _ e (long_is refl)
 
     module _ (h : (plan_fits && greedy_fits) ≡ true) where
       pub report_lent : ReportRoom file sizes memory

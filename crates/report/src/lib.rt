@@ -4,12 +4,13 @@
 ghost use Rattle.std.specs.Prelude.{◌≡◌, ◌&&◌, suc, ◌*◌, ◌≤◌, leb};
 ghost use Rattle.model.specs.File.{most_budget};
 ghost use Rattle.model.specs.Report.{ReportCall};
-ghost use Rattle.tree_file.specs.Checks.{verdict_of};
+ghost use Rattle.tree_file.specs.Refusals.{verdict_of};
 ghost use Rattle.report.specs.Written.{ReportRoom, ReportWritten};
 
-use tree_file::{Checked, Ruling};
+use fields::{Tree, TreeFile};
+use tree_file::{Refusal, Rule};
 
-// Rule 14, of the plan's buffers and of the greedy rule's.
+// Rule 14, of the plan's buffers and of the greedy rule's. The buffers stay apart, as a host in C hands them over.
 fn buffers_long(
     k: usize,
     totals: usize,
@@ -20,16 +21,13 @@ fn buffers_long(
     requires { k ≤ most_budget }
     ensures { result ≡ ((leb (suc k) totals && leb (suc k * k) rows) && (leb (suc k) greedy_totals && leb k greedy_nodes)) }
 {
-    if !optimum::buffers_long(k, totals, rows) {
-        return false;
-    }
-    greedy::buffers_long(k, greedy_totals, greedy_nodes)
+    optimum::buffers_long(k, totals, rows) && greedy::buffers_long(k, greedy_totals, greedy_nodes)
 }
 
 // Both answers, one after the other in the same scratch.
 fn make_report(
-    file: &[u8],
-    tree: fields::Tree,
+    file: &TreeFile,
+    tree: Tree,
     scratch: &mut [u64],
     totals: &mut [u64],
     rows: &mut [u16],
@@ -40,14 +38,8 @@ fn make_report(
     ensures { ReportWritten file.now record { scratch = scratch.entry.now; plan_totals = totals.old; plan_rows = rows.old; greedy_totals = greedy_totals.old; greedy_nodes = greedy_nodes.old } record { scratch = scratch.exit.now; plan_totals = totals.new; plan_rows = rows.new; greedy_totals = greedy_totals.new; greedy_nodes = greedy_nodes.new } }
 {
     optimum::make_plan(file, tree, scratch, totals, rows);
-    greedy::run(
-        file,
-        tree.nodes,
-        tree.budget,
-        scratch,
-        greedy_totals,
-        greedy_nodes,
-    );
+    let Tree { nodes, budget, .. } = tree;
+    greedy::run(file, nodes, budget, scratch, greedy_totals, greedy_nodes);
 }
 
 // At each budget from 0 to k: the plan's total and row of nodes, and the greedy rule's total; and the greedy rule's nodes.
@@ -59,32 +51,25 @@ pub fn report(
     rows: &mut [u16],
     greedy_totals: &mut [u64],
     greedy_nodes: &mut [u16],
-) -> Ruling
+) -> Result<(), Refusal>
     ensures { ReportCall file.now record { scratch = scratch.entry.now; plan_totals = totals.old; plan_rows = rows.old; greedy_totals = greedy_totals.old; greedy_nodes = greedy_nodes.old } (verdict_of result) record { scratch = scratch.exit.now; plan_totals = totals.new; plan_rows = rows.new; greedy_totals = greedy_totals.new; greedy_nodes = greedy_nodes.new } }
 {
-    let checked = lent::check(file, scratch.len());
-    match checked {
-        Checked::Accepted(tree) => {
-            if !buffers_long(
-                tree.budget,
-                totals.len(),
-                rows.len(),
-                greedy_totals.len(),
-                greedy_nodes.len(),
-            ) {
-                return Ruling::Broken(14, 0);
-            }
-            make_report(
-                file,
-                tree,
-                scratch,
-                totals,
-                rows,
-                greedy_totals,
-                greedy_nodes,
-            );
-            Ruling::Passed
-        }
-        Checked::Refused(q, record) => Ruling::Broken(q, record),
-    }
+    let tree = lent::check(file, scratch.len())?;
+    Rule::Buffers.ask(buffers_long(
+        tree.budget,
+        totals.len(),
+        rows.len(),
+        greedy_totals.len(),
+        greedy_nodes.len(),
+    ))?;
+    make_report(
+        &TreeFile::of(file),
+        tree,
+        scratch,
+        totals,
+        rows,
+        greedy_totals,
+        greedy_nodes,
+    );
+    Ok(())
 }

@@ -21,21 +21,14 @@ use Rattle.program_report.specs.Memory.{report_of}
 use Rattle.program_report.specs.declared.Report.{Report}
 use Rattle.program_report.proofs.Rules.{program_accepted}
 use Rattle.program_report.proofs.Memory.{limits}
-use Rattle.text_bytes.proofs.Appended.{append_keeps_length, appended_text}
+use Rattle.text_bytes.proofs.Appended.{appended_text}
 use Rattle.report_text.specs.Lines.{budget_line, AppendedWithin, ReportBuffers}
-use Rattle.report_text.specs.Texts.{Prints}
-use Rattle.report_text.specs.declared.Text.{Text}
 
 -- ---- a text by value
 
--- what was appended to memory of its own, from its start on
-pub appended_prints : {room : ℕ} {bytes old : List ℕ} {t : Text} → AppendedWithin room 0 bytes old t.bytes t.length → room ≤ length old
-    → Prints t bytes
-appended_prints a h =
-    record {
-      fits = omega (arith, a.within, append_keeps_length a.appended);
-      holds = appended_text a.appended (omega (arith, a.within, a.appended.ended));
-    }
+-- the front of memory of its own, after bytes were appended from its start on
+pub appended_text_within : {room e : ℕ} {bytes old new : List ℕ} → AppendedWithin room 0 bytes old new e → room ≤ length old → take e new ≡ bytes
+appended_text_within a h = appended_text a.appended (omega (arith, a.within, a.appended.ended))
 
 -- ---- the report
 

@@ -3,10 +3,10 @@ use mathlib.Core.Path.{◌≡◌, ap, ◌∙◌}
 use mathlib.Core.List.{List, [], ◌∷◌, ◌++◌, append-nil, flat_map}
 use Prim.Native.Nat.{ℕ, ◌+◌, ◌<◌}
 use native.Mathlib.Numerals.{add-one}
-use lib.ListN.{length, get_or}
+use lib.ListN.{length, take, get_or}
+use lib.Seq.{take-suc}
 use borrow.Author.Tests.{ne_eqb}
-use Rattle.laws.specs.Lists.{part, those}
-use Rattle.laws.proofs.Stores.{part_snoc}
+use Rattle.laws.specs.Lists.{those}
 use Rattle.laws.proofs.Ranges.{those_append}
 use Rattle.laws.proofs.Rows.{flat_append}
 use Rattle.report_text.specs.Lines.{word, words, is_node}
@@ -19,10 +19,10 @@ pub node_one_word : {entry : ℕ} → (entry ≡ 0 → ⊥) → words (those is_
 unfolding flat_map those
 node_one_word {entry} n = rw (ne_eqb entry 0 n) (append-nil (word entry))
 
-pub words_snoc : (rows : List ℕ) (start i : ℕ) → start + i < length rows
-    → words (those is_node (part rows start (i + 1))) ≡ words (those is_node (part rows start i)) ++ words (those is_node (get_or rows (start + i) 0 ∷ []))
-words_snoc rows start i h =
-    let entry = get_or rows (start + i) 0 ∷ [] in
-    ap (λ l. words (those is_node l)) (rw (add-one i) (part_snoc rows start i h))
-    ∙ ap words (those_append is_node (part rows start i) entry)
-    ∙ flat_append word (those is_node (part rows start i)) (those is_node entry)
+pub words_snoc : (row : List ℕ) (i : ℕ) → i < length row
+    → words (those is_node (take (i + 1) row)) ≡ words (those is_node (take i row)) ++ words (those is_node (get_or row i 0 ∷ []))
+words_snoc row i h =
+    let entry = get_or row i 0 ∷ [] in
+    ap (λ l. words (those is_node l)) (rw (add-one i) (take-suc row i 0 h))
+    ∙ ap words (those_append is_node (take i row) entry)
+    ∙ flat_append word (those is_node (take i row)) (those is_node entry)

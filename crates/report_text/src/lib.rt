@@ -1,16 +1,18 @@
 // The text that the report program prints, appended to lent memory word by word; each function answers where the text ends now.
 #![tactic(auto)]
 
-ghost use Rattle.std.specs.Prelude.{◌≡◌, suc, ◌+◌, ◌*◌, ◌≤◌, length};
+ghost use Rattle.std.specs.Prelude.{◌≡◌, List, ℕ, suc, ◌+◌, ◌*◌, ◌≤◌, length, take};
 ghost use mathlib.Core.List.{[], ◌∷◌, flat_map};
-ghost use Rattle.laws.specs.Lists.{range, part, those};
+ghost use Rattle.laws.specs.Lists.{range, those};
 ghost use Rattle.model.specs.File.{budget_of};
 ghost use Rattle.model.specs.Rules.{passed};
 ghost use Rattle.model.specs.Report.{decimal, report_text, refusal_text, program_verdict, program_text};
+ghost use Rattle.tree_file.specs.Refusals.{rule_number};
 ghost use Rattle.report_text.specs.Lines.{word, words, is_node, budget_line, number_room, word_room, line_room, lines_room, refusal_room, AppendedWithin, ReportBuffers};
-ghost use Rattle.report_text.specs.Texts.{Prints};
 
-use tree_file::Checked;
+use program_report::Report;
+use std::marker::Model;
+use tree_file::Refusal;
 
 // The bytes of a number with its space: 20 digits are enough for 64 bits.
 const WORD: usize = 21;
@@ -25,11 +27,27 @@ const SPACE: u8 = b' ';
 
 const NEWLINE: u8 = b'\n';
 
-// What the program prints: the first `length` bytes.
+// What the program prints: the first `length` bytes of its memory.
 #[derive(Drop)]
 pub struct Text {
-    pub bytes: [u8; ROOM],
-    pub length: usize,
+    memory: [u8; ROOM],
+    length: usize,
+}
+
+impl Model for Text {
+    ghost Value = { List ℕ };
+
+    ghost view = { λ t. take t.length t.memory };
+
+    ghost invariant = { λ t. t.length ≤ lines_room };
+}
+
+impl Text {
+    pub fn bytes(&self) -> &[u8]
+        ensures { result.now ≡ self.now }
+    {
+        &self.memory[..self.length]
+    }
 }
 
 // ---- words
@@ -59,19 +77,17 @@ fn put_node(text: &mut [u8], at: usize, entry: u16) -> usize
     if entry == 0 {
         return at;
     }
-    put_word(text, at, entry as u64)
+    put_word(text, at, u64::from(entry))
 }
 
-// Appends the nodes of a row of k entries from `start` on, those other than 0.
-fn put_nodes(text: &mut [u8], at: usize, rows: &[u16], start: usize, k: usize) -> usize
-    requires { (start + k ≤ length rows.now) × (at + k * word_room ≤ length text.old) }
-    ensures { AppendedWithin (k * word_room) at (words (those is_node (part rows.now start k))) text.old text.new result }
+// Appends the nodes of a row.
+fn put_nodes(text: &mut [u8], at: usize, row: &[u16]) -> usize
+    requires { at + length row.now * word_room ≤ length text.old }
+    ensures { AppendedWithin (length row.now * word_room) at (words (those is_node row.now)) text.old text.new result }
 {
     let mut end = at;
-    let mut i = 0;
-    while i < k {
-        end = put_node(text, end, rows[start + i]);
-        i += 1;
+    for entry in row {
+        end = put_node(text, end, *entry);
     }
     end
 }
@@ -79,55 +95,40 @@ fn put_nodes(text: &mut [u8], at: usize, rows: &[u16], start: usize, k: usize) -
 // ---- lines
 
 // Appends the line of budget b: b, the plan's total, the greedy total, the plan's nodes.
-fn put_line(
-    text: &mut [u8],
-    at: usize,
-    b: usize,
-    k: usize,
-    totals: &[u64],
-    rows: &[u16],
-    greedy_totals: &[u64],
-) -> usize
-    requires report_buffers { ReportBuffers k totals.now rows.now greedy_totals.now }
+fn put_line(text: &mut [u8], at: usize, b: usize, k: usize, report: &Report) -> usize
+    requires report_buffers { ReportBuffers k report.now.totals report.now.rows report.now.greedy_totals }
     requires b_le_k { (b ≤ k) × (at + line_room ≤ length text.old) }
-    ensures { AppendedWithin line_room at (budget_line k totals.now rows.now greedy_totals.now b) text.old text.new result }
+    ensures { AppendedWithin line_room at (budget_line k report.now.totals report.now.rows report.now.greedy_totals b) text.old text.new result }
 {
     let mut end = put_number(text, at, b as u64);
-    end = put_word(text, end, totals[b]);
-    end = put_word(text, end, greedy_totals[b]);
-    end = put_nodes(text, end, rows, b * k, k);
+    end = put_word(text, end, report.totals[b]);
+    end = put_word(text, end, report.greedy_totals[b]);
+    end = put_nodes(text, end, &report.rows[b * k..b * k + k]);
     text_bytes::put_byte(text, end, NEWLINE)
 }
 
 // Appends the line of every budget from 0 to k, at the start of the text.
-fn put_lines(
-    text: &mut [u8],
-    k: usize,
-    totals: &[u64],
-    rows: &[u16],
-    greedy_totals: &[u64],
-) -> usize
-    requires report_buffers { ReportBuffers k totals.now rows.now greedy_totals.now }
+fn put_lines(text: &mut [u8], k: usize, report: &Report) -> usize
+    requires report_buffers { ReportBuffers k report.now.totals report.now.rows report.now.greedy_totals }
     requires lines_room_in_bounds { lines_room ≤ length text.old }
-    ensures { AppendedWithin lines_room 0 (flat_map (budget_line k totals.now rows.now greedy_totals.now) (range 0 (suc k))) text.old text.new result }
+    ensures { AppendedWithin lines_room 0 (flat_map (budget_line k report.now.totals report.now.rows report.now.greedy_totals) (range 0 (suc k))) text.old text.new result }
 {
     let mut end = 0;
-    let mut b = 0;
-    while b <= k {
-        end = put_line(text, end, b, k, totals, rows, greedy_totals);
-        b += 1;
+    for b in 0..k + 1 {
+        end = put_line(text, end, b, k, report);
     }
     end
 }
 
 // The line of a refusal: the word `refused`, the number, the record.
-fn put_refusal(text: &mut [u8], q: u8, record: u16) -> usize
+// Not Display: the text of the program is proved byte by byte.
+fn put_refusal(text: &mut [u8], refusal: Refusal) -> usize
     requires { refusal_room ≤ length text.old }
-    ensures { AppendedWithin refusal_room 0 (refusal_text q «record») text.old text.new result }
+    ensures { AppendedWithin refusal_room 0 (refusal_text (rule_number refusal.rule) refusal.record) text.old text.new result }
 {
     let mut end = text_bytes::put_bytes(text, 0, b"refused");
-    end = put_word(text, end, q as u64);
-    end = put_word(text, end, record as u64);
+    end = put_word(text, end, u64::from(refusal.rule.number()));
+    end = put_word(text, end, u64::from(refusal.record));
     text_bytes::put_byte(text, end, NEWLINE)
 }
 
@@ -136,32 +137,28 @@ fn put_refusal(text: &mut [u8], q: u8, record: u16) -> usize
 // One line for each budget of a file that the program accepts.
 fn report_lines(file: &[u8], budget: usize) -> Text
     requires { (program_verdict file.now ≡ passed) × (budget ≡ budget_of file.now) }
-    ensures { Prints result (report_text file.now) }
+    ensures { result ≡ report_text file.now }
 {
     let report = program_report::report_of(file);
-    let totals = report.totals;
-    let rows = report.rows;
-    let greedy_totals = report.greedy_totals;
-    let mut bytes = [0u8; ROOM];
-    let length = put_lines(&mut bytes, budget, &totals, &rows, &greedy_totals);
-    Text { bytes, length }
+    let mut memory = [0u8; ROOM];
+    let length = put_lines(&mut memory, budget, &report);
+    Text { memory, length }
 }
 
-fn refusal_line(q: u8, record: u16) -> Text
-    ensures { Prints result (refusal_text q «record») }
+fn refusal_line(refusal: Refusal) -> Text
+    ensures { result ≡ refusal_text (rule_number refusal.rule) refusal.record }
 {
-    let mut bytes = [0u8; ROOM];
-    let length = put_refusal(&mut bytes, q, record);
-    Text { bytes, length }
+    let mut memory = [0u8; ROOM];
+    let length = put_refusal(&mut memory, refusal);
+    Text { memory, length }
 }
 
 // What the program prints, for every input.
 pub fn program_text(input: &[u8]) -> Text
-    ensures { Prints result (program_text input.now) }
+    ensures { result ≡ program_text input.now }
 {
-    let checked = program_report::check(input);
-    match checked {
-        Checked::Accepted(tree) => report_lines(input, tree.budget),
-        Checked::Refused(q, record) => refusal_line(q, record),
+    match program_report::check(input) {
+        Ok(tree) => report_lines(input, tree.budget),
+        Err(refusal) => refusal_line(refusal),
     }
 }

@@ -7,99 +7,34 @@
 #![tactic(auto)]
 
 use std::io;
-use std::io::{BufWriter, Write};
+use std::io::Write;
+use trial_text::Case;
 
-fn print_greedy<W: Write>(out: &mut W, totals: &[u64], nodes: &[u16]) -> io::Result<()> {
-    out.write_all(b" greedy_totals")?;
-    trial_text::print_totals(out, totals)?;
-    out.write_all(b" greedy_nodes")?;
-    trial_text::print_numbers(out, nodes)
-}
-
-fn answer<W: Write>(
-    out: &mut W,
-    file: &[u8],
-    beyond: usize,
-    scratch: &mut [u64],
-    totals: &mut [u64],
-    rows: &mut [u16],
-    greedy_totals: &mut [u64],
-    greedy_nodes: &mut [u16],
-) -> io::Result<()> {
-    trial_text::print_ruling(
-        out,
-        report::report(file, scratch, totals, rows, greedy_totals, greedy_nodes),
-    )?;
-    trial_text::print_plan(out, totals, rows)?;
-    print_greedy(out, greedy_totals, greedy_nodes)?;
-    trial_text::print_kept(out, scratch, beyond, 5432123)
-}
-
-// Lends as much of the greedy rule's buffers as the line says.
-fn answer_plan<W: Write>(
-    out: &mut W,
-    line: &[u8],
-    file: &[u8],
-    scratch: &mut [u64],
-    totals: &mut [u64],
-    rows: &mut [u16],
-) -> io::Result<()> {
-    let mut greedy_totals = [123456789u64; 40];
-    let mut greedy_nodes = [1234u16; 40];
-    let beyond = trial_text::entries(line, 2, 40960);
-    let d = trial_text::entries(line, 5, 40);
-    let e = trial_text::entries(line, 6, 40);
-    answer(
-        out,
-        file,
-        beyond,
-        scratch,
-        totals,
-        rows,
-        &mut greedy_totals[0..d],
-        &mut greedy_nodes[0..e],
-    )
-}
-
-// Lends as much of the scratch and of the plan's buffers as the line says.
-fn answer_file<W: Write>(out: &mut W, line: &[u8], file: &[u8]) -> io::Result<()> {
-    let mut scratch = trial_text::scratch_room(5432123);
-    let mut totals = [987654321u64; 40];
-    let mut rows = [4321u16; 1100];
-    let a = trial_text::entries(line, 1, 40960);
-    let b = trial_text::entries(line, 3, 40);
-    let c = trial_text::entries(line, 4, 1100);
-    answer_plan(
-        out,
-        line,
-        file,
-        &mut scratch[0..a],
-        &mut totals[0..b],
-        &mut rows[0..c],
-    )
-}
-
-fn answer_line<W: Write>(out: &mut W, line: &[u8]) -> io::Result<()> {
-    trial_text::print_name(out, line)?;
-    let mut file = trial_text::file_room();
-    let n = trial_text::file_of(line, 7, &mut file);
-    answer_file(out, line, &file[0..n])?;
+fn answer<W: Write>(out: &mut W, case: Case<'_>) -> io::Result<()> {
+    trial_text::print_name(out, case)?;
+    let mut scratch = case.lent(1, trial_text::SCRATCH_ROOM, trial_text::SCRATCH_WORD)?;
+    let beyond = case.number_within(2, trial_text::SCRATCH_ROOM);
+    let mut totals = case.lent(3, 40, 987654321u64)?;
+    let mut rows = case.lent(4, 1100, 4321u16)?;
+    let mut greedy_totals = case.lent(5, 40, 123456789u64)?;
+    let mut greedy_nodes = case.lent(6, 40, 1234u16)?;
+    let file = case.file(7)?;
+    let ruling = report::report(
+        &file,
+        &mut scratch,
+        &mut totals,
+        &mut rows,
+        &mut greedy_totals,
+        &mut greedy_nodes,
+    );
+    trial_text::print_ruling(out, ruling)?;
+    trial_text::print_plan(out, &totals, &rows)?;
+    trial_text::print_numbers(out, b" greedy_totals", &greedy_totals)?;
+    trial_text::print_numbers(out, b" greedy_nodes", &greedy_nodes)?;
+    trial_text::print_kept(out, &scratch, beyond, trial_text::SCRATCH_WORD)?;
     trial_text::end_line(out)
 }
 
-fn answer_lines<W: Write>(out: &mut W, text: &[u8]) -> io::Result<()> {
-    let mut at = 0;
-    while at < text.len() {
-        answer_line(out, trial_text::up_to(text, at, b'\n'))?;
-        at = trial_text::past(text, at, b'\n');
-    }
-    Ok(())
-}
-
 fn main(rt: HostRuntime) -> io::Result<()> {
-    let mut text = trial_text::text_room();
-    let n = first_bytes::read_into(&mut rt.stdin(), &mut text)?;
-    let mut out = BufWriter::new(rt.alloc(), io::writer(&rt))?;
-    answer_lines(&mut out, &text[..n])?;
-    out.flush()
+    trial_text::answer_cases(&rt, answer)
 }

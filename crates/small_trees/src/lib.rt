@@ -1,13 +1,17 @@
-// Trees of at most six nodes with their files, and sets of their nodes as masks.
+// Trees of at most six nodes with their files, and sets of their nodes.
 //
-// Nothing here is shared with the planner. A set is a mask with bit v for node v.
+// Nothing here is shared with the planner.
 #![tactic(auto)]
 
-ghost use Rattle.std.specs.Prelude.{◌≤◌, length};
+ghost use Rattle.std.specs.Iterator.{UpTo};
+ghost use Rattle.std.specs.Prelude.{◌≡◌, ◌+◌, ◌*◌, ◌≤◌, bit_and, bit_or, length};
+
+use std::iter;
+use std::ops::{BitAnd, BitOr, Range};
 
 // What a tree file says of a node. The share of its flow that a cache can serve is a hit ratio in thousandths in version 1,
 // and cachable bytes from version 2 on. A node is open where a cache may stand there: in versions 1 and 2 each node is.
-#[derive(Clone, Copy)]
+#[derive(Clone, Copy, Default)]
 pub struct Record {
     pub parent: u16,
     pub length: u16,
@@ -25,358 +29,274 @@ pub struct SmallTree {
     records: [Record; 6],
 }
 
-// The record of a node that the tree lacks.
-const NO_RECORD: Record = Record {
-    parent: 0,
-    length: 0,
-    flow: 0,
-    share: 0,
-    open: false,
-};
-
-// A tree whose records are still to come.
-pub fn bare_tree(version: u16, nodes: usize, budget: usize) -> SmallTree {
-    SmallTree {
-        version,
-        nodes,
-        budget,
-        records: [NO_RECORD; 6],
+impl SmallTree {
+    // A tree whose records are still to come.
+    pub fn bare(version: u16, nodes: usize, budget: usize) -> SmallTree {
+        SmallTree {
+            version,
+            nodes,
+            budget,
+            records: [Record::default(); 6],
+        }
     }
-}
 
-// The tree with this record for node v.
-pub fn with_record(tree: SmallTree, v: usize, record: Record) -> SmallTree {
-    let mut next = tree;
-    if v < 6 {
-        next.records[v] = record;
+    // The tree with this record for node v.
+    pub fn with_record(mut self, v: usize, record: Record) -> SmallTree {
+        if v < 6 {
+            self.records[v] = record;
+        }
+        self
     }
-    next
-}
 
-// Are the shares hit ratios?
-pub fn has_ratios(tree: SmallTree) -> bool {
-    tree.version == 1
-}
-
-// The tree's budget, at most 6.
-pub fn budget_of(tree: SmallTree) -> usize
-    ensures { result ≤ 6 }
-{
-    if tree.budget < 6 { tree.budget } else { 6 }
-}
-
-// What the tree says of node v.
-pub fn record_of(tree: SmallTree, v: usize) -> Record {
-    if v < 6 {
-        return tree.records[v];
+    // Are the shares hit ratios?
+    pub fn has_ratios(&self) -> bool {
+        self.version == 1
     }
-    NO_RECORD
+
+    // The tree's budget, at most 6.
+    pub fn budget_within_six(&self) -> usize
+        ensures { result ≤ 6 }
+    {
+        self.budget.min(6)
+    }
+
+    // What the tree says of node v.
+    pub fn record(&self, v: usize) -> Record {
+        self.records.get(v).copied().unwrap_or_default()
+    }
+
+    // The parent of v, 0 of the server.
+    pub fn parent(&self, v: usize) -> usize {
+        usize::from(self.record(v).parent)
+    }
+
+    // The nodes on the route of c: itself, its parent, and so on to the server.
+    pub fn route(&self, c: usize) -> Nodes {
+        let mut way = Nodes::only(0);
+        let mut v = c;
+        for _ in 0..5 {
+            way = way.with(v);
+            v = self.parent(v);
+        }
+        way
+    }
 }
 
 // ---- sets
 
-// The bit of each node.
-const BITS: [u8; 6] = [1, 2, 4, 8, 16, 32];
+// A set of nodes: a mask with bit v for node v.
+#[derive(Clone, Copy, PartialEq, Eq, Debug)]
+pub struct Nodes(pub u8);
 
-// The set of one node.
-pub fn only(v: usize) -> u8 {
-    if v < 6 {
-        return BITS[v];
+impl Nodes {
+    pub const NONE: Nodes = Nodes(0);
+
+    // The set of one node.
+    pub fn only(v: usize) -> Nodes {
+        if v < 6 { Nodes(1 << v) } else { Nodes::NONE }
     }
-    0
-}
 
-// Is v in the set?
-pub fn has(set: u8, v: usize) -> bool {
-    set & only(v) != 0
-}
-
-// The set with one node more.
-pub fn with(set: u8, v: usize) -> u8 {
-    set | only(v)
-}
-
-// How many nodes a set has.
-pub fn size(set: u8) -> u32 {
-    u32::count_ones(set as u32)
-}
-
-// Member i of a set in ascending order, counted from 0, and 0 past the last.
-pub fn member(set: u8, i: usize) -> usize {
-    let mut left = i;
-    let mut v = 0;
-    while v < 6 {
-        if has(set, v) {
-            if left == 0 {
-                return v;
-            }
-            left -= 1;
-        }
-        v += 1;
+    // The set of a row: its numbers other than 0.
+    pub fn of_row(row: &[u16]) -> Nodes {
+        row.iter()
+            .filter(|v| **v != 0)
+            .fold(Nodes::NONE, |set, v| set.with(usize::from(*v)))
     }
-    0
-}
 
-// Writes the members of a set, ascending and as many as fit, at the start of `out`, and answers how many there are.
-pub fn write_set(set: u8, out: &mut [u16]) -> usize
-    ensures { result ≤ length out.new }
-{
-    let members = size(set) as usize;
-    let mut end = 0;
-    while end < members {
-        if out.len() <= end {
-            return end;
-        }
-        out[end] = (member(set, end) % 6) as u16;
-        end += 1;
+    // Is v in the set?
+    pub fn has(self, v: usize) -> bool {
+        self & Nodes::only(v) != Nodes::NONE
     }
-    end
-}
 
-fn wide(node: u16) -> usize {
-    node as usize
-}
-
-// The set of a row: its numbers other than 0.
-pub fn set_of(row: &[u16]) -> u8 {
-    let mut set = 0;
-    let mut i = 0;
-    while i < row.len() {
-        if row[i] != 0 {
-            set = with(set, wide(row[i]));
-        }
-        i += 1;
+    // The set with one node more.
+    pub fn with(self, v: usize) -> Nodes {
+        self | Nodes::only(v)
     }
-    set
-}
 
-// Are the first k entries of a row the members of a set, ascending, and then zeros?
-pub fn holds_set(row: &[u16], k: usize, set: u8) -> bool {
-    let mut j = 0;
-    while j < k {
-        if row.len() <= j {
-            return false;
-        }
-        if wide(row[j]) != member(set, j) {
-            return false;
-        }
-        j += 1;
+    // How many nodes a set has.
+    pub fn size(self) -> usize
+        ensures { result ≤ 6 }
+    {
+        self.members().count()
     }
-    true
+
+    // The members in ascending order.
+    pub fn members(self) -> Members
+        ensures { UpTo (⟦<Members as Iterator>⟧.remaining result) 6 }
+    {
+        Members {
+            set: self,
+            rest: 0..6,
+        }
+    }
+
+    // Writes the members, ascending and as many as fit, at the start of `out`, and answers how many there are.
+    pub fn write(self, out: &mut [u16]) -> usize
+        ensures { result ≤ length out.new }
+    {
+        let end = self.size().min(out.len());
+        for (entry, v) in out[..end].iter_mut().zip(self.members()) {
+            *entry = v;
+        }
+        end
+    }
+
+    // Are the first k entries of a row the members, ascending, and then zeros?
+    pub fn is_row(self, row: &[u16], k: usize) -> bool {
+        k <= row.len()
+            && row[..k]
+                .iter()
+                .zip(self.members().chain(iter::repeat(0)))
+                .all(|(entry, v)| *entry == v)
+    }
 }
 
-// ---- routes
+impl BitAnd for Nodes {
+    type Output = Nodes;
 
-// The parent of v, 0 of the server.
-pub fn parent(tree: SmallTree, v: usize) -> usize {
-    record_of(tree, v).parent as usize
+    ghost bitand_gives = { λ a b r. r.0 ≡ bit_and a.0 b.0 };
+
+    fn bitand(self, rhs: Nodes) -> Nodes {
+        Nodes(self.0 & rhs.0)
+    }
 }
 
-// The nodes on the route of c: itself, its parent, and so on to the server.
-pub fn route(tree: SmallTree, c: usize) -> u8 {
-    let second = parent(tree, c);
-    let third = parent(tree, second);
-    let fourth = parent(tree, third);
-    let fifth = parent(tree, fourth);
-    only(c) | only(second) | only(third) | only(fourth) | only(fifth) | only(0)
+impl BitOr for Nodes {
+    type Output = Nodes;
+
+    ghost bitor_gives = { λ a b r. r.0 ≡ bit_or a.0 b.0 };
+
+    fn bitor(self, rhs: Nodes) -> Nodes {
+        Nodes(self.0 | rhs.0)
+    }
+}
+
+// Goes over the members of a set: those of its nodes that are still to come.
+#[derive(Drop)]
+pub struct Members {
+    set: Nodes,
+    rest: Range<u16>,
+}
+
+impl Iterator for Members {
+    type Item = u16;
+
+    ghost can_next = { λ s. ⟦<Range<u16> as Iterator>⟧.can_next s.rest };
+
+    ghost remaining = { λ s. ⟦<Range<u16> as Iterator>⟧.remaining s.rest };
+
+    fn next(&mut self) -> Option<u16> {
+        let set = self.set;
+        self.rest.find(|v| set.has(usize::from(*v)))
+    }
 }
 
 // ---- the tree file
 
-// A byte of a file, 0 past its end.
-fn byte(file: &[u8], at: usize) -> u8 {
-    if at < file.len() {
-        return file[at];
+// The bytes of a file from `at` on, zeros past its end.
+fn bytes<const N: usize>(file: &[u8], at: usize) -> [u8; N] {
+    let mut bytes = [0; N];
+    for (byte, of_file) in bytes.iter_mut().zip(file.iter().skip(at)) {
+        *byte = *of_file;
     }
-    0
-}
-
-// The number of two bytes.
-fn pair(file: &[u8], at: usize) -> u16
-    requires { at ≤ 100 }
-{
-    byte(file, at) as u16 * 256 + byte(file, at + 1) as u16
-}
-
-// The number of four bytes.
-fn quad(file: &[u8], at: usize) -> u32
-    requires { at ≤ 98 }
-{
-    pair(file, at) as u32 * 65536 + pair(file, at + 2) as u32
+    bytes
 }
 
 // Where the record of node v begins: a record has ten bytes in version 1, twelve in version 2 and thirteen in version 3.
 fn record_at(version: u16, v: usize) -> usize
     requires { v ≤ 6 }
-    ensures { result ≤ 87 }
+    ensures { result ≤ 9 + 13 * v }
 {
-    if version == 1 {
-        return 9 + 10 * v;
-    }
-    if version == 2 {
-        return 9 + 12 * v;
-    }
-    9 + 13 * v
+    let size = match version {
+        1 => 10,
+        2 => 12,
+        _ => 13,
+    };
+    9 + size * v
 }
 
-// The share in the record that begins at `at`.
-fn read_share(file: &[u8], version: u16, at: usize) -> u32
-    requires { at ≤ 87 }
-{
-    if version == 1 {
-        return pair(file, at + 8) as u32;
-    }
-    quad(file, at + 8)
-}
-
-// Is the node open whose record begins at `at`?
-fn read_open(file: &[u8], version: u16, at: usize) -> bool
-    requires { at ≤ 87 }
-{
-    if version < 3 {
-        return true;
-    }
-    byte(file, at + 12) == 1
-}
-
-// What a file says of node v, zeros past its end.
-fn read_record(file: &[u8], version: u16, v: usize) -> Record
-    requires { v ≤ 5 }
-{
-    let at = record_at(version, v);
-    let parent = pair(file, at);
-    let length = pair(file, at + 2);
-    let flow = quad(file, at + 4);
-    let share = read_share(file, version, at);
-    let open = read_open(file, version, at);
-    Record {
-        parent,
-        length,
-        flow,
-        share,
-        open,
-    }
-}
-
-// The tree of an accepted file of at most six nodes.
-pub fn read_file(file: &[u8]) -> SmallTree {
-    let version = pair(file, 3);
-    let records = [
-        read_record(file, version, 0),
-        read_record(file, version, 1),
-        read_record(file, version, 2),
-        read_record(file, version, 3),
-        read_record(file, version, 4),
-        read_record(file, version, 5),
-    ];
-    SmallTree {
-        version,
-        nodes: pair(file, 5) as usize,
-        budget: pair(file, 7) as usize,
-        records,
-    }
-}
-
-// The header of the tree's file.
-fn header(tree: SmallTree) -> [u8; 9] {
-    let version = tree.version;
-    let nodes = tree.nodes;
-    let budget = tree.budget;
-    [
-        b'K',
-        b'T',
-        b'R',
-        (version / 256) as u8,
-        (version % 256) as u8,
-        (nodes / 256 % 256) as u8,
-        (nodes % 256) as u8,
-        (budget / 256 % 256) as u8,
-        (budget % 256) as u8,
-    ]
-}
-
-// The byte of a node that is open or not.
-fn open_byte(open: bool) -> u8 {
-    if open { 1 } else { 0 }
-}
-
-// The thirteen bytes of a record of version 3; one of version 2 has all but the last.
-fn record_bytes(record: Record) -> [u8; 13] {
-    let parent = record.parent;
-    let length = record.length;
-    let flow = record.flow;
-    let share = record.share;
-    [
-        (parent / 256) as u8,
-        (parent % 256) as u8,
-        (length / 256) as u8,
-        (length % 256) as u8,
-        (flow / 16777216) as u8,
-        (flow / 65536 % 256) as u8,
-        (flow / 256 % 256) as u8,
-        (flow % 256) as u8,
-        (share / 16777216) as u8,
-        (share / 65536 % 256) as u8,
-        (share / 256 % 256) as u8,
-        (share % 256) as u8,
-        open_byte(record.open),
-    ]
-}
-
-// Where byte `place` of a record of version 1 stands in one of version 2: a share has its last two bytes only.
-fn with_long_share(place: usize) -> usize
-    requires { place ≤ 9 }
-    ensures { result ≤ 11 }
-{
-    if place < 8 {
-        return place;
-    }
-    place + 2
-}
-
-// Byte `place` of the record of node v.
-fn record_byte(tree: SmallTree, v: usize, place: usize) -> u8
-    requires { place ≤ 12 }
-{
-    let bytes = record_bytes(record_of(tree, v));
-    bytes[place]
-}
-
-// A byte of the tree's file.
-fn file_byte(tree: SmallTree, at: usize) -> u8 {
-    if at < 9 {
-        let bytes = header(tree);
-        return bytes[at];
-    }
-    if has_ratios(tree) {
-        return record_byte(tree, (at - 9) / 10, with_long_share((at - 9) % 10));
-    }
-    if tree.version == 2 {
-        return record_byte(tree, (at - 9) / 12, (at - 9) % 12);
-    }
-    record_byte(tree, (at - 9) / 13, (at - 9) % 13)
-}
-
-// The size of the tree's file, at most 87 bytes.
-fn file_size(tree: SmallTree) -> usize {
-    if tree.nodes <= 6 {
-        return record_at(tree.version, tree.nodes);
-    }
-    87
-}
-
-// Writes the tree's file, as much as fits, at the start of `out`, and answers how many bytes there are.
-pub fn write_file(tree: SmallTree, out: &mut [u8]) -> usize
-    ensures { result ≤ length out.new }
-{
-    let size = file_size(tree);
-    let mut end = 0;
-    while end < size {
-        if out.len() <= end {
-            return end;
+impl Record {
+    // What the record says that begins at `at`, zeros past the end of the file.
+    fn of_file(file: &[u8], version: u16, at: usize) -> Record
+        requires { at ≤ 87 }
+    {
+        Record {
+            parent: u16::from_be_bytes(bytes(file, at)),
+            length: u16::from_be_bytes(bytes(file, at + 2)),
+            flow: u32::from_be_bytes(bytes(file, at + 4)),
+            share: if version == 1 {
+                u32::from(u16::from_be_bytes(bytes(file, at + 8)))
+            } else {
+                u32::from_be_bytes(bytes(file, at + 8))
+            },
+            open: version < 3 || bytes(file, at + 12) == [1u8],
         }
-        out[end] = file_byte(tree, end);
-        end += 1;
     }
-    end
+
+    // The thirteen bytes of a record of version 3; one of version 2 has all but the last.
+    fn bytes(&self) -> [u8; 13] {
+        let mut bytes = [0; 13];
+        bytes[..2].copy_from_slice(&self.parent.to_be_bytes());
+        bytes[2..4].copy_from_slice(&self.length.to_be_bytes());
+        bytes[4..8].copy_from_slice(&self.flow.to_be_bytes());
+        bytes[8..12].copy_from_slice(&self.share.to_be_bytes());
+        bytes[12] = u8::from(self.open);
+        bytes
+    }
+}
+
+impl SmallTree {
+    // The tree of an accepted file of at most six nodes.
+    pub fn of_file(file: &[u8]) -> SmallTree {
+        let version = u16::from_be_bytes(bytes(file, 3));
+        let nodes = u16::from_be_bytes(bytes(file, 5));
+        let budget = u16::from_be_bytes(bytes(file, 7));
+        let mut tree = SmallTree::bare(version, usize::from(nodes), usize::from(budget));
+        for (v, record) in tree.records.iter_mut().enumerate() {
+            *record = Record::of_file(file, version, record_at(version, v));
+        }
+        tree
+    }
+
+    // The bytes of the tree's file, and of the records of all six nodes.
+    fn bytes(&self) -> [u8; 87] {
+        let mut bytes = [0; 87];
+        bytes[..3].copy_from_slice(b"KTR");
+        bytes[3..5].copy_from_slice(&self.version.to_be_bytes());
+        bytes[5..7].copy_from_slice(&((self.nodes % 65536) as u16).to_be_bytes());
+        bytes[7..9].copy_from_slice(&((self.budget % 65536) as u16).to_be_bytes());
+        for (v, record) in self.records.iter().enumerate() {
+            let at = record_at(self.version, v);
+            let record = record.bytes();
+            match self.version {
+                1 => {
+                    bytes[at..at + 8].copy_from_slice(&record[..8]);
+                    bytes[at + 8..at + 10].copy_from_slice(&record[10..12]);
+                }
+                2 => bytes[at..at + 12].copy_from_slice(&record[..12]),
+                _ => bytes[at..at + 13].copy_from_slice(&record),
+            }
+        }
+        bytes
+    }
+
+    // The size of the tree's file, at most 87 bytes.
+    fn file_size(&self) -> usize
+        ensures { result ≤ 87 }
+    {
+        if self.nodes <= 6 {
+            record_at(self.version, self.nodes)
+        } else {
+            87
+        }
+    }
+
+    // Writes the tree's file, as much as fits, at the start of `out`, and answers how many bytes there are.
+    pub fn write_file(&self, out: &mut [u8]) -> usize
+        ensures { result ≤ length out.new }
+    {
+        let end = self.file_size().min(out.len());
+        out[..end].copy_from_slice(&self.bytes()[..end]);
+        end
+    }
 }

@@ -9,10 +9,11 @@ use Rattle.fields.specs.Table.{InFile}
 use Rattle.node_words.specs.Ancestors.{ancestor_at}
 use Rattle.node_words.proofs.Words.{room_record}
 use Rattle.node_words.proofs.Ancestors.{ancestor_self, ancestor_before, ancestor_up}
+use Rattle.places.specs.declared.Place.{Place}
 use Rattle.table.specs.Table.{TableRoom, Served}
 use Rattle.table.proofs.Room.{room_sound, room_nodes}
 
-module _ {file starts widths s : List ℕ} {v : ℕ} (r : TableRoom file starts widths s) (node : v < count_of file) where
+module _ {file s : List ℕ} {places : List Place} {v : ℕ} (r : TableRoom file places s) (node : v < count_of file) where
   -- it begins at v itself
   pub climb_begins : {a : ℕ} → a ≡ depth (tree_of file) v → v ≡ ancestor_at (tree_of file) v a
   climb_begins e = sym (ap (ancestor_at (tree_of file) v) e ∙ ancestor_self (tree_of file) (room_sound r).preorder v)

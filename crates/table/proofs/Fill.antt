@@ -14,6 +14,7 @@ use Rattle.model.specs.Rules.{scratch_words}
 use Rattle.node_words.specs.Words.{node_words, NodeWords}
 use Rattle.places.specs.Places.{start_at}
 use Rattle.places.proofs.Places.{start_first, start_later}
+use Rattle.places.specs.declared.Place.{Place}
 use Rattle.table.specs.Table.{place_of, line_for, FilledFrom, TableRoom, NodeWordsStored, TableFrom, LinesFilled, Served}
 use Rattle.table.proofs.Places.{width_some, place_first, place_last, place_from, place_within, stored_line, other_line, words_stay, behind_stays}
 use Rattle.table.proofs.Lines.{length_line_for}
@@ -21,12 +22,12 @@ use Rattle.table.proofs.Room.{room_sound, room_end, room_fits, room_kept, stored
 
 -- ---- the words before the lines
 
-module _ {file starts widths : List ℕ} where
-  pub words_stored : {s l : List ℕ} → TableRoom file starts widths s → NodeWords (tree_of file) l → FrontOnly (node_words * count_of file) s l
-      → NodeWordsStored file starts widths l
+module _ {file : List ℕ} {places : List Place} where
+  pub words_stored : {s l : List ℕ} → TableRoom file places s → NodeWords (tree_of file) l → FrontOnly (node_words * count_of file) s l
+      → NodeWordsStored file places l
   words_stored r w f = record { room = room_kept r f.long; words = w }
 
-  pub words_front : {s l : List ℕ} → TableRoom file starts widths s → FrontOnly (node_words * count_of file) s l → FrontOnly (scratch_words file) s l
+  pub words_front : {s l : List ℕ} → TableRoom file places s → FrontOnly (node_words * count_of file) s l → FrontOnly (scratch_words file) s l
   words_front r f =
       front_only_wider (omega (
         arith,
@@ -35,10 +36,10 @@ module _ {file starts widths : List ℕ} where
         start_later (tree_of file) (budget_of file) {x = 1} {y = count_of file} (omega (arith, (room_sound r).some)),
       )) f
 
-module _ {file : List ℕ} {allows : ℕ → Bool → Bool} {starts widths : List ℕ} where
+module _ {file : List ℕ} {allows : ℕ → Bool → Bool} {places : List Place} where
   -- with them the table is filled from its end on
-  pub table_begins : {s : List ℕ} → NodeWordsStored file starts widths s
-      → TableFrom file allows starts widths s (start_at (tree_of file) (budget_of file) (count_of file))
+  pub table_begins : {s : List ℕ} → NodeWordsStored file places s
+      → TableFrom file allows places s (start_at (tree_of file) (budget_of file) (count_of file))
   unfolding FilledFrom
   table_begins r = record {
     stored = r;
@@ -50,10 +51,10 @@ module _ {file : List ℕ} {allows : ℕ → Bool → Bool} {starts widths : Lis
 
   -- ---- one line more
 
-  pub line_filled : {v a u : ℕ} {s l : List ℕ} → TableFrom file allows starts widths s (place_of (tree_of file) (budget_of file) v (a + 1))
+  pub line_filled : {v a u : ℕ} {s l : List ℕ} → TableFrom file allows places s (place_of (tree_of file) (budget_of file) v (a + 1))
       → Served (tree_of file) v a u
       → l ≡ sets s (place_of (tree_of file) (budget_of file) v a) (line_for (tree_of file) (demand_of file) allows (budget_of file) v a)
-      → LinesFilled file allows starts widths (place_of (tree_of file) (budget_of file) v a) s l
+      → LinesFilled file allows places (place_of (tree_of file) (budget_of file) v a) s l
   unfolding FilledFrom
   line_filled {v} {a} {u} {s} {l} r at e =
       let t = tree_of file in
@@ -82,25 +83,25 @@ module _ {file : List ℕ} {allows : ℕ → Bool → Bool} {starts widths : Lis
   -- ---- one node more
 
   -- before the first line of node v the lines are filled from where those of the next node begin
-  pub node_begins : {v : ℕ} {s : List ℕ} → 0 < v → TableFrom file allows starts widths s (start_at (tree_of file) (budget_of file) (v + 1))
-      → TableFrom file allows starts widths s (place_of (tree_of file) (budget_of file) v (depth (tree_of file) v))
+  pub node_begins : {v : ℕ} {s : List ℕ} → 0 < v → TableFrom file allows places s (start_at (tree_of file) (budget_of file) (v + 1))
+      → TableFrom file allows places s (place_of (tree_of file) (budget_of file) v (depth (tree_of file) v))
   node_begins {v} site r = rw (place_last (tree_of file) (budget_of file) v site) r
 
   -- and after its last one from where its own begin
-  pub node_ends : {v : ℕ} {s l : List ℕ} → 0 < v → LinesFilled file allows starts widths (place_of (tree_of file) (budget_of file) v 0) s l
-      → LinesFilled file allows starts widths (start_at (tree_of file) (budget_of file) v) s l
+  pub node_ends : {v : ℕ} {s l : List ℕ} → 0 < v → LinesFilled file allows places (place_of (tree_of file) (budget_of file) v 0) s l
+      → LinesFilled file allows places (start_at (tree_of file) (budget_of file) v) s l
   node_ends {v} site m = rw (place_first (tree_of file) (budget_of file) v site) at m
 
-  pub next_line : (v : ℕ) {a : ℕ} {s : List ℕ} → 0 < a → TableFrom file allows starts widths s (place_of (tree_of file) (budget_of file) v a)
-      → TableFrom file allows starts widths s (place_of (tree_of file) (budget_of file) v (a - 1 + 1))
+  pub next_line : (v : ℕ) {a : ℕ} {s : List ℕ} → 0 < a → TableFrom file allows places s (place_of (tree_of file) (budget_of file) v a)
+      → TableFrom file allows places s (place_of (tree_of file) (budget_of file) v (a - 1 + 1))
   next_line v {a} h r = let e : a - 1 + 1 ≡ a = omega arith in rw e r
 
-  pub next_node : {v : ℕ} {s : List ℕ} → 0 < v → TableFrom file allows starts widths s (start_at (tree_of file) (budget_of file) v)
-      → TableFrom file allows starts widths s (start_at (tree_of file) (budget_of file) (v - 1 + 1))
+  pub next_node : {v : ℕ} {s : List ℕ} → 0 < v → TableFrom file allows places s (start_at (tree_of file) (budget_of file) v)
+      → TableFrom file allows places s (start_at (tree_of file) (budget_of file) (v - 1 + 1))
   next_node {v} h r = let e : v - 1 + 1 ≡ v = omega arith in rw e r
 
   -- node 1 is the first that has a line
-  pub table_whole : {s l : List ℕ} → LinesFilled file allows starts widths (start_at (tree_of file) (budget_of file) 1) s l → LinesFilled file allows starts widths 0 s l
+  pub table_whole : {s l : List ℕ} → LinesFilled file allows places (start_at (tree_of file) (budget_of file) 1) s l → LinesFilled file allows places 0 s l
   unfolding FilledFrom
   table_whole m = record {
     table = record {
@@ -115,9 +116,9 @@ module _ {file : List ℕ} {allows : ℕ → Bool → Bool} {starts widths : Lis
 
   -- ---- one after the other
 
-  pub filled_none : {i : ℕ} {s : List ℕ} → TableFrom file allows starts widths s i → LinesFilled file allows starts widths i s s
+  pub filled_none : {i : ℕ} {s : List ℕ} → TableFrom file allows places s i → LinesFilled file allows places i s s
   filled_none r = record { table = r; front = front_only_none _ _ }
 
-  pub filled_then : {i j : ℕ} {s r l : List ℕ} → LinesFilled file allows starts widths i s r → LinesFilled file allows starts widths j r l
-      → LinesFilled file allows starts widths j s l
+  pub filled_then : {i j : ℕ} {s r l : List ℕ} → LinesFilled file allows places i s r → LinesFilled file allows places j r l
+      → LinesFilled file allows places j s l
   filled_then m n = record { table = n.table; front = front_only_then _ m.front n.front }

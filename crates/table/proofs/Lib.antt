@@ -1,10 +1,10 @@
 pub mod Places
 pub mod Lines
 pub mod Prices
-pub mod Wishes
 pub mod Room
 pub mod Reading
 pub mod Server
 pub mod OneLine
 pub mod Climb
 pub mod Fill
+pub mod Beside

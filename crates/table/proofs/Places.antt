@@ -4,7 +4,7 @@ use mathlib.Core.List.{List}
 use Prim.Native.Nat.{ℕ, zero, suc, ◌+◌, ◌*◌, ◌≤◌, ◌<◌, ◌^◌}
 use native.Mathlib.Decide.{dec_lt}
 use native.Mathlib.Omega.{arith}
-use lib.ListN.{length, take, get_or}
+use lib.ListN.{length, take}
 use lib.Seq.{sets, length-sets}
 use Rattle.laws.specs.Lists.{part}
 use Rattle.laws.specs.Fronts.{FrontOnly}
@@ -12,27 +12,28 @@ use Rattle.laws.proofs.Numbers.{row_before}
 use Rattle.laws.proofs.Stores.{drop_sets, take_sets, part_after, part_same}
 use Rattle.model.specs.File.{Tree}
 use Rattle.model.specs.Tree.{depth}
-use Rattle.places.specs.Places.{width_at, start_at}
+use Rattle.places.specs.Places.{start_in, width_in, width_at, start_at}
 use Rattle.places.proofs.Places.{start_first, start_next, start_later}
+use Rattle.places.specs.declared.Place.{Place}
 use Rattle.table.specs.Table.{line_at, InTable, place_of}
 
 -- ---- by the places noted
 
-module _ (starts widths : List ℕ) (a : ℕ) where
-  pub line_none : {x : ℕ} → x ≡ 0 → line_at starts widths x a ≡ 0
+module _ (places : List Place) (a : ℕ) where
+  pub line_none : {x : ℕ} → x ≡ 0 → line_at places x a ≡ 0
   unfolding line_at
   line_none e = rw e
 
   -- from what the code reads of them
-  pub line_noted : {x start width : ℕ} → 0 < x → start ≡ get_or starts x 0 → width ≡ get_or widths x 0 → start + a * width ≡ line_at starts widths x a
+  pub line_noted : {x start width : ℕ} → 0 < x → start ≡ start_in places x → width ≡ width_in places x → start + a * width ≡ line_at places x a
   unfolding line_at
   line_noted {x = zero} h e f = absurd (omega arith)
   line_noted {x = suc x} h e f = rw (e, f)
 
 -- an index in the scratch fits a word
-pub place_asked : {starts widths s : List ℕ} {x a : ℕ} → InTable starts widths s x a → length s < 2 ^ 64
-    → (x < length starts) × (x < length widths) × (line_at starts widths x a < 2 ^ 64)
-place_asked p h = (p.noted.0, p.noted.1, omega (arith, p.inside))
+pub place_asked : {s : List ℕ} {places : List Place} {x a : ℕ} → InTable places s x a → length s < 2 ^ 64
+    → (x < length places) × (line_at places x a < 2 ^ 64)
+place_asked p h = (p.noted, omega (arith, p.inside))
 
 -- ---- by the tree
 

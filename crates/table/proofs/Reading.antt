@@ -18,25 +18,26 @@ use Rattle.best_rows.proofs.TreeRows.{first_child_stands, next_sibling_stands}
 use Rattle.node_words.specs.Words.{HasNode, word_of, depth_word, child_word, sibling_word}
 use Rattle.node_words.specs.Ancestors.{ancestor_at}
 use Rattle.node_words.proofs.Ancestors.{ancestor_self, child_depth, child_ancestor, sibling_depth, sibling_ancestor, ancestor_before, ancestor_nearer}
-use Rattle.places.specs.Places.{start_at}
+use Rattle.places.specs.Places.{width_in, start_at}
 use Rattle.places.proofs.Places.{start_later}
 use Rattle.lines.specs.Line.{HoldsBest, LinesHoldBest}
+use Rattle.places.specs.declared.Place.{Place}
 use Rattle.table.specs.Table.{line_at, InTable, line_in, place_of, FilledFrom, TableFrom, Served, Client}
 use Rattle.table.proofs.Places.{place_from}
 use Rattle.table.proofs.Lines.{empty_holds, line_holds}
 use Rattle.table.proofs.Room.{width_none, room_sound, room_width, room_line, room_place, stored_node, stored_client}
 
 -- a line in the table has as many entries as its node's width says
-pub length_line : {starts widths s : List ℕ} {x a : ℕ} → InTable starts widths s x a → length (line_in starts widths s x a) ≡ get_or widths x 0
+pub length_line : {places : List Place} {s : List ℕ} {x a : ℕ} → InTable places s x a → length (line_in places s x a) ≡ width_in places x
 unfolding line_in
-length_line {starts} {widths} {s} {x} {a} p = length_part s (line_at starts widths x a) (get_or widths x 0) p.inside
+length_line {places} {s} {x} {a} p = length_part s (line_at places x a) (width_in places x) p.inside
 
-module _ {file : List ℕ} {allows : ℕ → Bool → Bool} {starts widths s : List ℕ} {i : ℕ} (r : TableFrom file allows starts widths s i) where
+module _ {file : List ℕ} {allows : ℕ → Bool → Bool} {s : List ℕ} {places : List Place} {i : ℕ} (r : TableFrom file allows places s i) where
   pre : Preorder (tree_of file)
   pre = (room_sound r.stored.room).preorder
 
   -- the empty row's line is the server's distance alone
-  none_line : (a : ℕ) → line_in starts widths s 0 a ≡ 0 ∷ []
+  none_line : (a : ℕ) → line_in places s 0 a ≡ 0 ∷ []
   unfolding line_in line_at
   none_line a =
       let room = r.stored.room in
@@ -47,12 +48,12 @@ module _ {file : List ℕ} {allows : ℕ → Bool → Bool} {starts widths s : L
   -- the line of a row of children of p after v, where u is their ancestor at depth a, is in the table and holds its least costs
   module _ (v p c a u : ℕ) (before : i ≤ start_at (tree_of file) (budget_of file) (v + 1)) (stands : NoneOrChild (tree_of file) v p c)
       (way : 0 < c → (tree_of file).parent c ≡ p → (a < depth (tree_of file) c) × (ancestor_at (tree_of file) c a ≡ u)) where
-    pub row_place : InTable starts widths s c a
+    pub row_place : InTable places s c a
     row_place =
         room_place r.stored.room c a (⊎_elim (λ e. omega (arith, (room_sound r.stored.room).some)) (λ g. g.1) stands)
         (λ some. ⊎_elim (λ e. absurd (omega arith)) (λ g. (way some g.2).0) stands)
 
-    pub row_line : HoldsBest (budget_of file + 1) (best_at (tree_of file) (demand_of file) allows c u) (line_in starts widths s c a)
+    pub row_line : HoldsBest (budget_of file + 1) (best_at (tree_of file) (demand_of file) allows c u) (line_in places s c a)
     unfolding FilledFrom line_in
     row_line =
         ⊎_elim
@@ -76,7 +77,7 @@ module _ {file : List ℕ} {allows : ℕ → Bool → Bool} {starts widths s : L
     -- ---- its own line
 
     pub own_row : i ≤ place_of (tree_of file) (budget_of file) v a
-        → HoldsBest (budget_of file + 1) (best_at (tree_of file) (demand_of file) allows v u) (line_in starts widths s v a)
+        → HoldsBest (budget_of file + 1) (best_at (tree_of file) (demand_of file) allows v u) (line_in places s v a)
     unfolding FilledFrom line_in
     own_row later =
         line_holds (tree_of file) (demand_of file) allows (budget_of file) v a u (sym at.ancestor)
@@ -111,11 +112,11 @@ module _ {file : List ℕ} {allows : ℕ → Bool → Bool} {starts widths s : L
             let x = first_child t v in
             (omega (arith, child_depth t pre x v some p), child_ancestor t pre x v (depth t v) some p (le_refl _) ∙ ancestor_self t pre v)
 
-        pub own_place : InTable starts widths s child deep
+        pub own_place : InTable places s child deep
         own_place =
             rw (first, own_depth) (row_place v v (first_child (tree_of file) v) (depth (tree_of file) v) v before (first_child_stands (tree_of file) v) own_way)
 
-        own_line : HoldsBest (budget_of file + 1) (best_at (tree_of file) (demand_of file) allows (first_child (tree_of file) v) v) (line_in starts widths s child deep)
+        own_line : HoldsBest (budget_of file + 1) (best_at (tree_of file) (demand_of file) allows (first_child (tree_of file) v) v) (line_in places s child deep)
         own_line =
             rw (first, own_depth) (row_line v v (first_child (tree_of file) v) (depth (tree_of file) v) v before (first_child_stands (tree_of file) v) own_way)
 
@@ -127,11 +128,11 @@ module _ {file : List ℕ} {allows : ℕ → Bool → Bool} {starts widths s : L
             let x = first_child t v in
             (omega (arith, child_depth t pre x v some p, at.above), child_ancestor t pre x v a some p (omega (arith, at.above)) ∙ sym at.ancestor)
 
-        pub children_place : InTable starts widths s child a
+        pub children_place : InTable places s child a
         children_place =
             rw (c ∙ r.stored.words.child v at.node) (row_place v v (first_child (tree_of file) v) a u before (first_child_stands (tree_of file) v) children_way)
 
-        children_line : HoldsBest (budget_of file + 1) (best_at (tree_of file) (demand_of file) allows (first_child (tree_of file) v) u) (line_in starts widths s child a)
+        children_line : HoldsBest (budget_of file + 1) (best_at (tree_of file) (demand_of file) allows (first_child (tree_of file) v) u) (line_in places s child a)
         children_line =
             rw (c ∙ r.stored.words.child v at.node) (row_line v v (first_child (tree_of file) v) a u before (first_child_stands (tree_of file) v) children_way)
 
@@ -145,19 +146,19 @@ module _ {file : List ℕ} {allows : ℕ → Bool → Bool} {starts widths s : L
               sibling_ancestor t pre x v a some at.site p at.above ∙ sym at.ancestor,
             )
 
-        pub siblings_place : InTable starts widths s sibling a
+        pub siblings_place : InTable places s sibling a
         siblings_place =
             rw (b ∙ r.stored.words.sibling v at.site at.node)
             (row_place v ((tree_of file).parent v) (next_sibling (tree_of file) v) a u before (next_sibling_stands (tree_of file) v) siblings_way)
 
-        siblings_line : HoldsBest (budget_of file + 1) (best_at (tree_of file) (demand_of file) allows (next_sibling (tree_of file) v) u) (line_in starts widths s sibling a)
+        siblings_line : HoldsBest (budget_of file + 1) (best_at (tree_of file) (demand_of file) allows (next_sibling (tree_of file) v) u) (line_in places s sibling a)
         siblings_line =
             rw (b ∙ r.stored.words.sibling v at.site at.node)
             (row_line v ((tree_of file).parent v) (next_sibling (tree_of file) v) a u before (next_sibling_stands (tree_of file) v) siblings_way)
 
       pub lines_hold_best : {child sibling deep : ℕ} {cached uncached rest : List ℕ}
           → child ≡ word_of s v child_word → sibling ≡ word_of s v sibling_word → deep ≡ word_of s v depth_word
-          → cached ≡ line_in starts widths s child deep → uncached ≡ line_in starts widths s child a → rest ≡ line_in starts widths s sibling a
+          → cached ≡ line_in places s child deep → uncached ≡ line_in places s child a → rest ≡ line_in places s sibling a
           → LinesHoldBest (budget_of file + 1) (children_at (tree_of file) (demand_of file) allows v u) (siblings_at (tree_of file) (demand_of file) allows v u) cached uncached rest
       lines_hold_best c b e x y z = record {
         cached_is = rw x (own_line c e);

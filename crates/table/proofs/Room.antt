@@ -3,7 +3,7 @@ use mathlib.Core.Path.{◌≡◌, refl, sym, ap₂}
 use mathlib.Core.List.{List}
 use Prim.Native.Nat.{ℕ, zero, suc, ◌+◌, ◌*◌, ◌≤◌, ◌<◌}
 use native.Mathlib.Omega.{arith}
-use lib.ListN.{length, take, get_or}
+use lib.ListN.{length, take}
 use Rattle.model.specs.File.{tree_of, demand_of, count_of, budget_of}
 use Rattle.model.specs.Tree.{depth, distance}
 use Rattle.model.specs.Rules.{scratch_words}
@@ -15,8 +15,9 @@ use Rattle.tree_file.proofs.Accepted.{sizes_budget}
 use Rattle.node_words.specs.Words.{node_words, HasNode, NodeRoom}
 use Rattle.node_words.proofs.Words.{node_words_same}
 use Rattle.best_rows.proofs.Table.{row_size_none}
-use Rattle.places.specs.Places.{width_at, start_at, Places}
+use Rattle.places.specs.Places.{width_in, width_at, start_at, Places}
 use Rattle.places.proofs.Places.{start_first, start_later, words_are_end}
+use Rattle.places.specs.declared.Place.{Place}
 use Rattle.table.specs.Table.{line_at, InTable, place_of, TableRoom, NodeWordsStored, Client}
 use Rattle.table.proofs.Places.{place_within}
 
@@ -26,11 +27,11 @@ unfolding width_at
 width_none file = omega (arith, row_size_none (tree_of file))
 
 -- a scratch that rule 13 lets pass has room for the table, once the places are noted
-pub table_room_lem : {file starts widths s : List ℕ} {sizes : code.Tree} → AcceptedSizes file sizes → scratch_words file ≤ length s
-    → Places (tree_of file) sizes.budget starts widths → TableRoom file starts widths s
-table_room_lem of room p = record { accepted = of.accepted; places = rw (sizes_budget of) at p; room = room }
+pub table_room_lem : {file s : List ℕ} {places : List Place} {sizes : code.Tree} → AcceptedSizes file sizes → scratch_words file ≤ length s
+    → Places (tree_of file) sizes.budget places → TableRoom file places s
+table_room_lem of room p = record { accepted = of.accepted; noted = rw (sizes_budget of) at p; room = room }
 
-module _ {file starts widths s : List ℕ} (r : TableRoom file starts widths s) where
+module _ {file s : List ℕ} {places : List Place} (r : TableRoom file places s) where
   pub room_sound : Sound (tree_of file) (demand_of file)
   room_sound = accepted_sound file r.accepted
 
@@ -52,22 +53,22 @@ module _ {file starts widths s : List ℕ} (r : TableRoom file starts widths s) 
         );
   }
 
-  pub room_kept : {l : List ℕ} → length l ≡ length s → TableRoom file starts widths l
-  room_kept e = record { accepted = r.accepted; places = r.places; room = omega (arith, r.room) }
+  pub room_kept : {l : List ℕ} → length l ≡ length s → TableRoom file places l
+  room_kept e = record { accepted = r.accepted; noted = r.noted; room = omega (arith, r.room) }
 
   -- ---- the places noted
 
   module _ (x : ℕ) (node : x < count_of file) where
-    pub room_width : get_or widths x 0 ≡ width_at (tree_of file) (budget_of file) x
-    room_width = r.places.width x node
+    pub room_width : width_in places x ≡ width_at (tree_of file) (budget_of file) x
+    room_width = r.noted.width x node
 
-    room_noted : (x < length starts) × (x < length widths)
-    room_noted = (omega (arith, r.places.long.0), omega (arith, r.places.long.1))
+    room_noted : x < length places
+    room_noted = omega (arith, r.noted.long)
 
-  pub room_line : (x a : ℕ) → x < count_of file → line_at starts widths x a ≡ place_of (tree_of file) (budget_of file) x a
+  pub room_line : (x a : ℕ) → x < count_of file → line_at places x a ≡ place_of (tree_of file) (budget_of file) x a
   unfolding line_at place_of
   room_line zero a h = refl
-  room_line (suc x) a h = ap₂ (λ (start width : ℕ). start + a * width) (r.places.start (suc x) (omega arith) h) (r.places.width (suc x) h)
+  room_line (suc x) a h = ap₂ (λ (start width : ℕ). start + a * width) (r.noted.start (suc x) (omega arith) h) (r.noted.width (suc x) h)
 
   -- the line of a node is inside
   pub room_fits : {v a : ℕ} → 0 < v → v < count_of file → a < depth (tree_of file) v
@@ -81,7 +82,7 @@ module _ {file starts widths s : List ℕ} (r : TableRoom file starts widths s) 
         r.room,
       )
 
-  pub room_place : (x a : ℕ) → x < count_of file → (0 < x → a < depth (tree_of file) x) → InTable starts widths s x a
+  pub room_place : (x a : ℕ) → x < count_of file → (0 < x → a < depth (tree_of file) x) → InTable places s x a
   unfolding place_of
   room_place zero a h above = record {
     noted = room_noted zero h;
@@ -92,7 +93,7 @@ module _ {file starts widths s : List ℕ} (r : TableRoom file starts widths s) 
     inside = omega (arith, room_line (suc x) a h, room_width (suc x) h, room_fits {v = suc x} {a = a} (omega arith) h (above (omega arith)));
   }
 
-module _ {file starts widths s : List ℕ} (r : NodeWordsStored file starts widths s) where
+module _ {file s : List ℕ} {places : List Place} (r : NodeWordsStored file places s) where
   pub stored_node : {x : ℕ} → x < count_of file → HasNode s x
   stored_node h = omega (arith, (room_nodes r.room).room)
 
@@ -101,6 +102,6 @@ module _ {file starts widths s : List ℕ} (r : NodeWordsStored file starts widt
   stored_client h k near = record { nodes = room_nodes r.room; words = r.words; node = h; serving = omega arith; nearer = near }
 
 -- the words stand in another list of the same length whose front is the same
-pub stored_same : {file starts widths s l : List ℕ} → length l ≡ length s
-    → take (node_words * count_of file) l ≡ take (node_words * count_of file) s → NodeWordsStored file starts widths s → NodeWordsStored file starts widths l
+pub stored_same : {file s l : List ℕ} {places : List Place} → length l ≡ length s
+    → take (node_words * count_of file) l ≡ take (node_words * count_of file) s → NodeWordsStored file places s → NodeWordsStored file places l
 stored_same {file} {s = s} {l = l} e f r = record { room = room_kept r.room e; words = node_words_same (tree_of file) s l (sym f) r.words }

@@ -14,11 +14,12 @@ use Rattle.node_words.specs.Words.{word_of, child_word, HasNode}
 use Rattle.node_words.specs.Ancestors.{ancestor_at}
 use Rattle.node_words.proofs.Ancestors.{child_depth, ancestor_server}
 use Rattle.lines.specs.Line.{HoldsBest}
-use Rattle.table.specs.Table.{line_in, Table, ServerLineThere}
+use Rattle.places.specs.declared.Place.{Place}
+use Rattle.table.specs.Table.{line_in, FullTable, ServerLineThere}
 use Rattle.table.proofs.Room.{room_sound, stored_node}
 use Rattle.table.proofs.Reading.{row_place, row_line}
 
-module _ {file : List ℕ} {allows : ℕ → Bool → Bool} {starts widths s : List ℕ} (r : Table file allows starts widths s) where
+module _ {file : List ℕ} {allows : ℕ → Bool → Bool} {s : List ℕ} {places : List Place} (r : FullTable file allows places s) where
   pub table_sound : Sound (tree_of file) (demand_of file)
   table_sound = room_sound r.stored.room
 
@@ -41,14 +42,14 @@ module _ {file : List ℕ} {allows : ℕ → Bool → Bool} {starts widths s : L
   server_first = r.stored.words.child 0 table_sound.some
 
   -- the line of their row is there
-  pub server_there : ServerLineThere starts widths s
+  pub server_there : ServerLineThere places s
   server_there = record {
     node = table_has_node table_sound.some;
     line = rw server_first (row_place r 0 0 (first_child (tree_of file) 0) 0 0 (omega arith) (first_child_stands (tree_of file) 0) server_way);
   }
 
   -- and holds the least of that row for each count
-  pub server_line_lem : {l : List ℕ} → l ≡ line_in starts widths s (word_of s 0 child_word) 0
+  pub server_line_lem : {l : List ℕ} → l ≡ line_in places s (word_of s 0 child_word) 0
       → HoldsBest (budget_of file + 1) (best_at (tree_of file) (demand_of file) allows (first_child (tree_of file) 0) 0) l
   server_line_lem f =
       rw (rw server_first at f) (row_line r 0 0 (first_child (tree_of file) 0) 0 0 (omega arith) (first_child_stands (tree_of file) 0) server_way)

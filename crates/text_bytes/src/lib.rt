@@ -23,10 +23,8 @@ pub fn put_bytes(text: &mut [u8], at: usize, bytes: &[u8]) -> usize
     ensures { Appended at bytes.now text.old text.new result }
 {
     let mut end = at;
-    let mut i = 0;
-    while i < bytes.len() {
-        end = put_byte(text, end, bytes[i]);
-        i += 1;
+    for byte in bytes {
+        end = put_byte(text, end, *byte);
     }
     end
 }

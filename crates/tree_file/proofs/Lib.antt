@@ -1,3 +1,4 @@
+pub mod Rulings
 mod Climbs
 mod Depths
 mod Records

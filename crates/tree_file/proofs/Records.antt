@@ -59,11 +59,9 @@ module _ (file : List ℕ) (i : ℕ) where
       let holds = leb (field_of file open_field i) open_field.most in
       by_test (λ b. cond b (ask 24 i holds) passed ≡ ask 24 i (cond b holds true)) (has_open_bytes file) (λ _. refl) (λ _. refl)
 
-  pub bytes_broken : has_ratios file ≡ false → leb (field_of file cachable_field i) (field_of file flow_field i) ≡ false → last_asked ≡ broken 17 i
-  bytes_broken e h = rw (share_bytes file i e, h)
-
-  pub bytes_held : has_ratios file ≡ false → leb (field_of file cachable_field i) (field_of file flow_field i) ≡ true → last_asked ≡ ask 24 i open_holds
-  bytes_held e h = rw (share_bytes file i e, h) open_asked_lem
+  pub bytes_asked : has_ratios file ≡ false
+      → last_asked ≡ ask 17 i (leb (field_of file cachable_field i) (field_of file flow_field i)) then ask 24 i open_holds
+  bytes_asked e = rw (share_bytes file i e, open_asked_lem)
 
 -- ---- one record after the other
 

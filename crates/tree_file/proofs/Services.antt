@@ -1,5 +1,5 @@
 -- The sizes of a file and the record of a node, by the verdict on the file.
-use mathlib.Core.Path.{◌≡◌, sym, ap, ◌∙◌}
+use mathlib.Core.Path.{◌≡◌}
 use mathlib.Core.List.{List}
 use Prim.Native.Nat.{ℕ, ◌≤◌, ◌<◌}
 use denote.Builtin.{u8}
@@ -7,24 +7,16 @@ use borrow.Author.Tests.{lt-ltb, le-ltb}
 use Rattle.laws.specs.Slices.{Slice, PartOf}
 use Rattle.model.specs.File.{tree_of, count_of, budget_of, record_at, record_length}
 use Rattle.model.specs.Tree.{height}
-use Rattle.model.specs.Rules.{Verdict, passed, broken, file_verdict, accepted}
-use Rattle.model.specs.Calls.{answered, refused, answer, record_bytes}
+use Rattle.model.specs.Rules.{passed, broken, file_verdict, accepted}
+use Rattle.model.specs.Calls.{answered, answer, record_bytes}
 use Rattle.fields.specs.declared.Tree as code
-use Rattle.tree_file.specs.Checks.{verdict_of, sizes_of}
+use Rattle.tree_file.specs.Checks.{sizes_of}
 use Rattle.tree_file.specs.Places.{RecordHandedBack}
-use Rattle.tree_file.specs.declared.Ruling.{Ruling}
-
--- what the answer of a match says of the verdict
-pub told : {r s : Ruling} {v : Verdict} → r ≡ s → verdict_of r ≡ v → verdict_of s ≡ v
-told e h = ap verdict_of (sym e) ∙ h
 
 module _ (file : List ℕ) where
   pub sizes_answered : (sizes : code.Tree) → passed ≡ file_verdict file → sizes.nodes ≡ count_of file → sizes.budget ≡ budget_of file
       → sizes.height ≡ height (tree_of file) → answered sizes ≡ answer (file_verdict file) (sizes_of file)
   sizes_answered sizes e n b h = rw (← e) (λ i. answered (record { nodes = n i; budget = b i; height = h i }))
-
-  pub sizes_refused : (q i : ℕ) → broken q i ≡ file_verdict file → refused q i ≡ answer (file_verdict file) (sizes_of file)
-  sizes_refused q i e = rw (← e)
 
 -- what the record call guarantees where r is handed back
 abbrev RecordOwed : Slice u8 → ℕ → Slice u8 → Type 0

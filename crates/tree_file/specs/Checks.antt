@@ -1,24 +1,18 @@
 -- What the answers of the check mean in the model's words, and which records its steps may read.
-use Rattle.std.specs.Prelude.{◌≡◌, List, ℕ, suc, ◌≤◌, ◌<◌, length, get_or}
+use Rattle.std.specs.Prelude.{◌≡◌, List, ℕ, suc, ◌≤◌, ◌<◌, length, get_or, Result}
 use Rattle.model.specs.File.{Tree, most_nodes, most_budget, most_depth, count_of, budget_of, record_at, tree_of}
 use Rattle.model.specs.Tree.{depth, height}
-use Rattle.model.specs.Rules.{Verdict, passed, broken, file_verdict}
-use Rattle.model.specs.Calls.{Answer, answered, refused}
+use Rattle.model.specs.Rules.{passed, file_verdict}
+use Rattle.model.specs.Calls.{Answer}
 use Rattle.model.specs.Preorder.{PreorderTo}
 use Rattle.fields.specs.Table.{InFile}
 use Rattle.fields.specs.declared.Tree as code
-use Rattle.tree_file.specs.declared.Ruling.{Ruling}
-use Rattle.tree_file.specs.declared.Ruling.TheVariants.{Passed, Broken}
-use Rattle.tree_file.specs.declared.Checked.{Checked}
-use Rattle.tree_file.specs.declared.Checked.TheVariants.{Accepted, Refused}
+use Rattle.tree_file.specs.declared.rules.Refusal.{Refusal}
+use Rattle.tree_file.specs.Refusals.{answer_by}
 
-abbrev pub verdict_of : Ruling → Verdict
-verdict_of Passed = passed
-verdict_of (Broken q i) = broken q i
-
-abbrev pub answer_of : Checked → Answer code.Tree
-answer_of (Accepted sizes) = answered sizes
-answer_of (Refused q i) = refused q i
+-- n, k and h, or the refusal
+abbrev pub answer_of : Result code.Tree Refusal → Answer code.Tree
+answer_of = answer_by (λ sizes. sizes)
 
 -- n, k and h of a file
 abbrev pub sizes_of : List ℕ → code.Tree

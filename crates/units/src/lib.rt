@@ -3,34 +3,46 @@
 
 ghost use Rattle.std.specs.Prelude.{◌≡◌, ◌+◌, ◌-◌, ◌*◌, ◌^◌, ◌<◌, ◌≤◌, min, nat_lt};
 
+use std::ops::{Add, Mul, Sub};
+
 // A sum of link lengths.
-#[derive(Clone, Copy)]
+#[derive(Clone, Copy, PartialEq, Eq, PartialOrd, Ord, Debug)]
 pub struct Distance(pub u64);
 
 // Thousandths of a flow: all of it is 1,000 × f, its cachable part f × p or 1,000 × the cachable bytes.
-#[derive(Clone, Copy)]
+#[derive(Clone, Copy, PartialEq, Eq, PartialOrd, Ord, Debug)]
 pub struct Flow(pub u64);
 
 // Thousandths of flow over distance.
-#[derive(Clone, Copy)]
+#[derive(Clone, Copy, PartialEq, Eq, PartialOrd, Ord, Debug)]
 pub struct Total(pub u64);
 
 impl Distance {
     pub const ZERO: Distance = Distance(0);
+}
 
-    pub fn plus(self, other: Distance) -> Distance
-        requires { self.0 + other.0 < 2 ^ 64 }
-        ensures { result.0 ≡ self.0 + other.0 }
-    {
-        Distance(self.0 + other.0)
+impl Add for Distance {
+    type Output = Distance;
+
+    ghost can_add = { λ a b. a.0 + b.0 < 2 ^ 64 };
+
+    ghost add_gives = { λ a b r. r.0 ≡ a.0 + b.0 };
+
+    fn add(self, rhs: Distance) -> Distance {
+        Distance(self.0 + rhs.0)
     }
+}
 
-    // How much farther this is than the other.
-    pub fn beyond(self, other: Distance) -> Distance
-        requires { other.0 ≤ self.0 }
-        ensures { result.0 ≡ self.0 - other.0 }
-    {
-        Distance(self.0 - other.0)
+// How much farther one is than the other.
+impl Sub for Distance {
+    type Output = Distance;
+
+    ghost can_sub = { λ a b. b.0 ≤ a.0 };
+
+    ghost sub_gives = { λ a b r. r.0 ≡ a.0 - b.0 };
+
+    fn sub(self, rhs: Distance) -> Distance {
+        Distance(self.0 - rhs.0)
     }
 }
 
@@ -38,27 +50,43 @@ impl Flow {
     pub const ZERO: Flow = Flow(0);
     // A whole flow in thousandths.
     pub const WHOLE: u64 = 1_000;
+}
 
-    pub fn plus(self, other: Flow) -> Flow
-        requires { self.0 + other.0 < 2 ^ 64 }
-        ensures { result.0 ≡ self.0 + other.0 }
-    {
-        Flow(self.0 + other.0)
+impl Add for Flow {
+    type Output = Flow;
+
+    ghost can_add = { λ a b. a.0 + b.0 < 2 ^ 64 };
+
+    ghost add_gives = { λ a b r. r.0 ≡ a.0 + b.0 };
+
+    fn add(self, rhs: Flow) -> Flow {
+        Flow(self.0 + rhs.0)
     }
+}
 
-    // What is left of this flow without the other.
-    pub fn without(self, other: Flow) -> Flow
-        requires { other.0 ≤ self.0 }
-        ensures { result.0 ≡ self.0 - other.0 }
-    {
-        Flow(self.0 - other.0)
+// What is left of a flow without the other.
+impl Sub for Flow {
+    type Output = Flow;
+
+    ghost can_sub = { λ a b. b.0 ≤ a.0 };
+
+    ghost sub_gives = { λ a b r. r.0 ≡ a.0 - b.0 };
+
+    fn sub(self, rhs: Flow) -> Flow {
+        Flow(self.0 - rhs.0)
     }
+}
 
-    pub fn over(self, distance: Distance) -> Total
-        requires { self.0 * distance.0 < 2 ^ 64 }
-        ensures { result.0 ≡ self.0 * distance.0 }
-    {
-        Total(self.0 * distance.0)
+// A flow over a distance is a total.
+impl Mul<Distance> for Flow {
+    type Output = Total;
+
+    ghost can_mul = { λ a b. a.0 * b.0 < 2 ^ 64 };
+
+    ghost mul_gives = { λ a b r. r.0 ≡ a.0 * b.0 };
+
+    fn mul(self, rhs: Distance) -> Total {
+        Total(self.0 * rhs.0)
     }
 }
 
@@ -67,10 +95,11 @@ impl Total {
     // 2^62, which no total reaches.
     pub const CAP: Total = Total(1 << 62);
 
+    // Not `Ord::min`, whose promise speaks of `cmp`: this one is about numbers.
     pub fn lesser(self, other: Total) -> Total
         ensures { result.0 ≡ min self.0 other.0 }
     {
-        if other.0 < self.0 { other } else { self }
+        Total(self.0.min(other.0))
     }
 
     // The lesser of this, at most 2^62, and a sum of at most 2^63. Their difference is compared, so that the compiler makes no jump;
@@ -79,7 +108,7 @@ impl Total {
         requires { (self.0 ≤ 2 ^ 62) × (by.0 ≤ 2 ^ 63) }
         ensures { result.0 ≡ min self.0 by.0 }
     {
-        if std::num::wrapping_sub_u64(self.0, by.0) < (1 << 63) {
+        if self.0.wrapping_sub(by.0) < (1 << 63) {
             by
         } else {
             self
@@ -91,19 +120,29 @@ impl Total {
     {
         self.0 < other.0
     }
+}
 
-    pub fn plus(self, other: Total) -> Total
-        requires { self.0 + other.0 < 2 ^ 64 }
-        ensures { result.0 ≡ self.0 + other.0 }
-    {
-        Total(self.0 + other.0)
+impl Add for Total {
+    type Output = Total;
+
+    ghost can_add = { λ a b. a.0 + b.0 < 2 ^ 64 };
+
+    ghost add_gives = { λ a b r. r.0 ≡ a.0 + b.0 };
+
+    fn add(self, rhs: Total) -> Total {
+        Total(self.0 + rhs.0)
     }
+}
 
-    // What is left of this total without the other.
-    pub fn without(self, other: Total) -> Total
-        requires { other.0 ≤ self.0 }
-        ensures { result.0 ≡ self.0 - other.0 }
-    {
-        Total(self.0 - other.0)
+// What is left of a total without the other.
+impl Sub for Total {
+    type Output = Total;
+
+    ghost can_sub = { λ a b. b.0 ≤ a.0 };
+
+    ghost sub_gives = { λ a b r. r.0 ≡ a.0 - b.0 };
+
+    fn sub(self, rhs: Total) -> Total {
+        Total(self.0 - rhs.0)
     }
 }

@@ -1,6 +1,6 @@
--- `row_of`: row `f` of the table.
+-- `row_of`: the row of field `f` in the table.
 use Rattle.fields.proofs.Table.{row_here}
 use Rattle.fields.proofs.row_of.Goals as goal
 
 pub returns : goal.returns
-returns c = row_here _ c.requires
+returns c = rw c.row.ensures (row_here c.args.f)

@@ -1,31 +1,26 @@
 -- `from_target`: the least budget, at most k, whose plan total is no larger than the target, with its set as a row of the plan.
-use mathlib.Core.Path.{◌≡◌, sym, ap, ◌∙◌}
-use lib.ListN.{length}
-use Rattle.model.specs.Calls.{answered, answer}
-use Rattle.tree_file.specs.Checks.{answer_of, sizes_of}
-use Rattle.lent.specs.Lent.{lent_verdict}
-use Rattle.lent.proofs.Asked.{lent_room_lem}
-use Rattle.least_budget.proofs.Answers.{target_refused, target_short, target_long, target_answered}
+use Rattle.tree_file.proofs.Accepted.{accepted_long}
+use Rattle.lent.proofs.Asked.{lent_told, lent_room_lem}
+use Rattle.least_budget.proofs.Answers.{target_refused, row_refused, target_long, target_answered}
 use Rattle.least_budget.proofs.from_target.Goals as goal
 
-pub returns-then-row-tree : goal.returns-then-row-tree
-returns-then-row-tree c =
-    let told : answered c.in-Accepted.tree ≡ answer (lent_verdict c.args.file.now (length c.args.scratch.now)) (sizes_of c.args.file.now) = ap answer_of (sym c.in-Accepted.is) ∙ c.check-checked.ensures in
-    target_short _ _ _ told c.if-row-tree.true
+pub returns-in_err-tree : goal.returns-in_err-tree
+returns-in_err-tree c = target_refused _ _ _ _ _ c.from_residual.ensures.1 c.in_err-tree.ensures
+
+pub returns-in_err-ask : goal.returns-in_err-ask
+returns-in_err-ask c = row_refused _ _ _ c.in_ok-tree.ensures _ _ c.from_residual-in_err-ask.ensures.1 c.in_err-ask.ensures
+
+pub of-requires : goal.of-requires
+of-requires c = accepted_long _ (lent_told _ c.in_ok-tree.ensures).0
 
 pub find-requires : goal.find-requires
 find-requires c =
-    let told : answered c.in-Accepted.tree ≡ answer (lent_verdict c.args.file.now (length c.args.scratch.now)) (sizes_of c.args.file.now) = ap answer_of (sym c.in-Accepted.is) ∙ c.check-checked.ensures in
-    let sizes = told in
-    record {
-      lent_room = lent_room_lem _ c.args.scratch.now sizes;
-      file_in_bounds = target_long c.args.file.now c.args.target.0 record { scratch = c.args.scratch.now; row = c.args.row.now } sizes c.if-row-tree.false;
-    }
+    rw c.of.ensures (record {
+      lent_room = lent_room_lem _ c.args.scratch.now c.in_ok-tree.ensures;
+      file_in_bounds = target_long c.args.file.now c.args.target.0 record { scratch = c.args.scratch.now; row = c.args.row.now } c.in_ok-tree.ensures c.in_ok-ask.ensures;
+    })
 
-pub returns-else-row-tree : goal.returns-else-row-tree
-returns-else-row-tree c =
-    let told : answered c.in-Accepted.tree ≡ answer (lent_verdict c.args.file.now (length c.args.scratch.now)) (sizes_of c.args.file.now) = ap answer_of (sym c.in-Accepted.is) ∙ c.check-checked.ensures in
-    target_answered _ _ _ told c.if-row-tree.false c.find.ensures.result_value c.find.ensures.front_only c.find.ensures.row_after
-
-pub returns-in-Refused : goal.returns-in-Refused
-returns-in-Refused c = target_refused _ _ _ (ap answer_of (sym c.in-Refused.is) ∙ c.check-checked.ensures)
+pub returns : goal.returns
+returns c =
+    target_answered _ _ _ c.in_ok-tree.ensures c.in_ok-ask.ensures (rw c.of.ensures at c.find.ensures.result_value)
+    (rw c.of.ensures at c.find.ensures.front_only) (rw c.of.ensures at c.find.ensures.row_after)

@@ -4,12 +4,6 @@ use Rattle.node_words.proofs.Words.{room_kept}
 use Rattle.node_words.proofs.Links.{node_words_hold}
 use Rattle.node_words.proofs.note_nodes.Goals as goal
 
-pub measure-requires : goal.measure-requires
-measure-requires c = c.requires
-
-pub link-requires : goal.link-requires
-link-requires c = room_kept c.requires c.measure.ensures.front_only
-
 pub returns : goal.returns
 returns c = let room = room_kept c.requires c.measure.ensures.front_only in record {
   node_words = node_words_hold _ room c.measure.ensures.measured c.link.ensures.links_only c.link.ensures.linked;

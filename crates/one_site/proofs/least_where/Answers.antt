@@ -1,13 +1,10 @@
 -- `least_where`: the least total of the sets of at most b nodes that contain the node, or of those that don't, where there is one.
 use Rattle.table.proofs.Server.{server_there}
-use Rattle.one_site.proofs.Leasts.{asked_small, least_where_found}
+use Rattle.one_site.proofs.Least.{least_where_found}
 use Rattle.one_site.proofs.least_where.Goals as goal
 
 pub server_line-requires : goal.server_line-requires
 server_line-requires c = server_there c.make_table.ensures.table
-
-pub least_within-requires : goal.least_within-requires
-least_within-requires c = asked_small c.requires.asked_site
 
 pub returns : goal.returns
 returns c = record {

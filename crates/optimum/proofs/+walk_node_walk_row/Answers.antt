@@ -1,7 +1,6 @@
 -- `walk_node` and `walk_row`, which call each other, keep their contracts.
 use mathlib.Core.Path.{◌∙◌}
 use native.Mathlib.Omega.{arith}
-use Rattle.tree_file.proofs.Accepted.{accepted_long}
 use Rattle.optimum.proofs.Walk.{serving_stands, node_stands, node_small, child_row, member_some, member_row, member_stores, other_row, other_stores, walk_begins, walk_ends, walked_row, walked_stands, children_smaller, siblings_smaller, walked_node, walk_turns, walk_passes}
 use Rattle.optimum.proofs.+walk_node_walk_row.Goals as goal
 use Rattle.optimum.proofs.+walk_node_walk_row.Goals.{walk_row-then-later-m, walk_row-else-later-m}
@@ -43,9 +42,6 @@ walk_node-returns-clause-rows_after t c =
     c.walk_row-2.ensures.rows_after ∙ other_stores c.requires c.child_of-child.ensures c.if-member.false
 
 -- ---- a row
-
-pub walk_row-record_length-size-requires : goal.walk_row-record_length-size-requires
-walk_row-record_length-size-requires t c = accepted_long _ c.requires.table.stored.room.accepted
 
 pub walk_row-depth_word-above-requires : goal.walk_row-depth_word-above-requires
 walk_row-depth_word-above-requires t c = serving_stands c.requires

@@ -16,7 +16,7 @@ decreases-walk_row l = 2 * row_size (row_at (tree_of l.file.now) l.first)
 
 abbrev pub invariant-walk_row-loop-m : goal.invariant-walk_row-loop-m
 invariant-walk_row-loop-m l =
-    Walked l.file (may_be (tree_of l.file)) l.starts l.widths l.s l.serving l.first l.count l.start l.initial.rows l.x l.m l.at l.rows
+    Walked l.file (may_be (tree_of l.file)) l.table.places.now l.table.words.now l.serving l.first l.count l.start l.initial.rows l.x l.m l.at l.rows
 
 abbrev pub decreases-walk_row-loop-m : goal.decreases-walk_row-loop-m
 decreases-walk_row-loop-m l = row_size (row_at (tree_of l.file) l.x)

@@ -17,67 +17,64 @@ use Rattle.optimum.proofs.split_of.Goals as goal
 
 pub child_of-child-requires : goal.child_of-child-requires
 child_of-child-requires c =
-    let served : Served (tree_of c.args.file.now) c.args.x c.args.above c.args.serving = split_served c.requires.row_to_split c.requires.size_value.1 in
+    let served : Served (tree_of c.args.file.now) c.args.x c.args.above c.args.serving = split_served c.requires.row_to_split c.requires.above_value in
     served_room c.requires.row_to_split.table served
 
 pub depth_word-requires : goal.depth_word-requires
 depth_word-requires c =
-    let served : Served (tree_of c.args.file.now) c.args.x c.args.above c.args.serving = split_served c.requires.row_to_split c.requires.size_value.1 in
+    let served : Served (tree_of c.args.file.now) c.args.x c.args.above c.args.serving = split_served c.requires.row_to_split c.requires.above_value in
     served_room c.requires.row_to_split.table served
 
 pub line-cached-requires : goal.line-cached-requires
 line-cached-requires c =
-    let served : Served (tree_of c.args.file.now) c.args.x c.args.above c.args.serving = split_served c.requires.row_to_split c.requires.size_value.1 in
+    let served : Served (tree_of c.args.file.now) c.args.x c.args.above c.args.serving = split_served c.requires.row_to_split c.requires.above_value in
     own_place c.requires.row_to_split.table served (omega arith) c.child_of-child.ensures c.depth_word.ensures
 
 pub line-uncached-requires : goal.line-uncached-requires
 line-uncached-requires c =
-    let served : Served (tree_of c.args.file.now) c.args.x c.args.above c.args.serving = split_served c.requires.row_to_split c.requires.size_value.1 in
+    let served : Served (tree_of c.args.file.now) c.args.x c.args.above c.args.serving = split_served c.requires.row_to_split c.requires.above_value in
     children_place c.requires.row_to_split.table served (omega arith) c.child_of-child.ensures
 
 pub sibling_of-sibling-requires : goal.sibling_of-sibling-requires
 sibling_of-sibling-requires c =
-    let served : Served (tree_of c.args.file.now) c.args.x c.args.above c.args.serving = split_served c.requires.row_to_split c.requires.size_value.1 in
+    let served : Served (tree_of c.args.file.now) c.args.x c.args.above c.args.serving = split_served c.requires.row_to_split c.requires.above_value in
     served_room c.requires.row_to_split.table served
 
 pub line-rest-requires : goal.line-rest-requires
 line-rest-requires c =
-    let served : Served (tree_of c.args.file.now) c.args.x c.args.above c.args.serving = split_served c.requires.row_to_split c.requires.size_value.1 in
+    let served : Served (tree_of c.args.file.now) c.args.x c.args.above c.args.serving = split_served c.requires.row_to_split c.requires.above_value in
     siblings_place c.requires.row_to_split.table served (omega arith) c.sibling_of-sibling.ensures
 
 pub line-requires : goal.line-requires
 line-requires c =
-    let served : Served (tree_of c.args.file.now) c.args.x c.args.above c.args.serving = split_served c.requires.row_to_split c.requires.size_value.1 in
+    let served : Served (tree_of c.args.file.now) c.args.x c.args.above c.args.serving = split_served c.requires.row_to_split c.requires.above_value in
     room_place c.requires.row_to_split.table.stored.room c.args.x c.args.above served.node (λ _. served.above)
 
-pub cachable_in-part-requires : goal.cachable_in-part-requires
-cachable_in-part-requires c =
-    let served : Served (tree_of c.args.file.now) c.args.x c.args.above c.args.serving = split_served c.requires.row_to_split c.requires.size_value.1 in
+pub cachable-part-requires : goal.cachable-part-requires
+cachable-part-requires c =
+    let served : Served (tree_of c.args.file.now) c.args.x c.args.above c.args.serving = split_served c.requires.row_to_split c.requires.above_value in
     let client = served_itself c.requires.row_to_split.table served in
-    record {
-      size_value = c.requires.size_value.0;
-      in_file = room_record client.nodes client.node;
-    }
+    room_record client.nodes client.node
 
 pub pays_itself-member-requires : goal.pays_itself-member-requires
 pays_itself-member-requires c =
-    let served : Served (tree_of c.args.file.now) c.args.x c.args.above c.args.serving = split_served c.requires.row_to_split c.requires.size_value.1 in
+    let served : Served (tree_of c.args.file.now) c.args.x c.args.above c.args.serving = split_served c.requires.row_to_split c.requires.above_value in
     record {
       client = served_itself c.requires.row_to_split.table served;
-      size_value = (c.requires.size_value.0, c.cachable_in-part.ensures);
+      part_value = c.cachable-part.ensures;
     }
 
 pub pays-other-requires : goal.pays-other-requires
 pays-other-requires c =
-    let served : Served (tree_of c.args.file.now) c.args.x c.args.above c.args.serving = split_served c.requires.row_to_split c.requires.size_value.1 in
+    let served : Served (tree_of c.args.file.now) c.args.x c.args.above c.args.serving = split_served c.requires.row_to_split c.requires.above_value in
     record {
       client = served_above_it c.requires.row_to_split.table served;
-      size_value = (c.requires.size_value.0, c.cachable_in-part.ensures);
+      part_value = c.cachable-part.ensures;
     }
 
 pub later-later-requires : goal.later-later-requires
 later-later-requires c =
-    let served : Served (tree_of c.args.file.now) c.args.x c.args.above c.args.serving = split_served c.requires.row_to_split c.requires.size_value.1 in
+    let served : Served (tree_of c.args.file.now) c.args.x c.args.above c.args.serving = split_served c.requires.row_to_split c.requires.above_value in
     let held : let t = tree_of c.args.file.now in
     let d = demand_of c.args.file.now in
     LinesHoldBest (budget_of c.args.file.now + 1) (children_at t d (may_be t) c.args.x c.args.serving) (siblings_at t d (may_be t) c.args.x c.args.serving) c.line-cached.result.now c.line-uncached.result.now c.line-rest.result.now = lines_hold_best c.requires.row_to_split.table served (omega arith) c.child_of-child.ensures c.sibling_of-sibling.ensures c.depth_word.ensures
@@ -87,13 +84,13 @@ later-later-requires c =
     let pays_other : let t = tree_of c.args.file.now in
     c.pays-other.result.0 ≡ pay_at t (demand_of c.args.file.now) (may_be t) c.args.x c.args.serving false = pays_above _ _ _ _ c.pays-other.ensures in
     record {
-      line_parts = split_parts c.requires.row_to_split served held pays_own pays_other;
+      rest_line = (split_parts c.requires.row_to_split served held pays_own pays_other).rest_line;
       least_value = split_least c.requires.row_to_split served held pays_own pays_other c.line.ensures c.entry-least.ensures;
     }
 
 pub returns-then-m-later : goal.returns-then-m-later
 returns-then-m-later c =
-    let served : Served (tree_of c.args.file.now) c.args.x c.args.above c.args.serving = split_served c.requires.row_to_split c.requires.size_value.1 in
+    let served : Served (tree_of c.args.file.now) c.args.x c.args.above c.args.serving = split_served c.requires.row_to_split c.requires.above_value in
     let held : let t = tree_of c.args.file.now in
     let d = demand_of c.args.file.now in
     LinesHoldBest (budget_of c.args.file.now + 1) (children_at t d (may_be t) c.args.x c.args.serving) (siblings_at t d (may_be t) c.args.x c.args.serving) c.line-cached.result.now c.line-uncached.result.now c.line-rest.result.now = lines_hold_best c.requires.row_to_split.table served (omega arith) c.child_of-child.ensures c.sibling_of-sibling.ensures c.depth_word.ensures
@@ -109,7 +106,7 @@ returns-then-m-later c =
 
 pub overflow_sub-m : goal.overflow_sub-m
 overflow_sub-m c =
-    let served : Served (tree_of c.args.file.now) c.args.x c.args.above c.args.serving = split_served c.requires.row_to_split c.requires.size_value.1 in
+    let served : Served (tree_of c.args.file.now) c.args.x c.args.above c.args.serving = split_served c.requires.row_to_split c.requires.above_value in
     let held : let t = tree_of c.args.file.now in
     let d = demand_of c.args.file.now in
     LinesHoldBest (budget_of c.args.file.now + 1) (children_at t d (may_be t) c.args.x c.args.serving) (siblings_at t d (may_be t) c.args.x c.args.serving) c.line-cached.result.now c.line-uncached.result.now c.line-rest.result.now = lines_hold_best c.requires.row_to_split.table served (omega arith) c.child_of-child.ensures c.sibling_of-sibling.ensures c.depth_word.ensures
@@ -120,9 +117,9 @@ overflow_sub-m c =
     c.pays-other.result.0 ≡ pay_at t (demand_of c.args.file.now) (may_be t) c.args.x c.args.serving false = pays_above _ _ _ _ c.pays-other.ensures in
     split_fits c.requires.row_to_split served held pays_own pays_other c.later-later.ensures
 
-pub takes-requires : goal.takes-requires
-takes-requires c =
-    let served : Served (tree_of c.args.file.now) c.args.x c.args.above c.args.serving = split_served c.requires.row_to_split c.requires.size_value.1 in
+pub invariant_of-node : goal.invariant_of-node
+invariant_of-node c =
+    let served : Served (tree_of c.args.file.now) c.args.x c.args.above c.args.serving = split_served c.requires.row_to_split c.requires.above_value in
     let held : let t = tree_of c.args.file.now in
     let d = demand_of c.args.file.now in
     LinesHoldBest (budget_of c.args.file.now + 1) (children_at t d (may_be t) c.args.x c.args.serving) (siblings_at t d (may_be t) c.args.x c.args.serving) c.line-cached.result.now c.line-uncached.result.now c.line-rest.result.now = lines_hold_best c.requires.row_to_split.table served (omega arith) c.child_of-child.ensures c.sibling_of-sibling.ensures c.depth_word.ensures
@@ -131,11 +128,11 @@ takes-requires c =
     c.pays_itself-member.result.0 ≡ pay_at t (demand_of c.args.file.now) (may_be t) c.args.x c.args.serving true = pays_itself_lem _ _ _ c.args.serving c.pays_itself-member.ensures in
     let pays_other : let t = tree_of c.args.file.now in
     c.pays-other.result.0 ≡ pay_at t (demand_of c.args.file.now) (may_be t) c.args.x c.args.serving false = pays_above _ _ _ _ c.pays-other.ensures in
-    (split_parts c.requires.row_to_split served held pays_own pays_other).node_parts
+    record { parts = (split_parts c.requires.row_to_split served held pays_own pays_other).node_parts }
 
 pub returns : goal.returns
 returns c =
-    let served : Served (tree_of c.args.file.now) c.args.x c.args.above c.args.serving = split_served c.requires.row_to_split c.requires.size_value.1 in
+    let served : Served (tree_of c.args.file.now) c.args.x c.args.above c.args.serving = split_served c.requires.row_to_split c.requires.above_value in
     let held : let t = tree_of c.args.file.now in
     let d = demand_of c.args.file.now in
     LinesHoldBest (budget_of c.args.file.now + 1) (children_at t d (may_be t) c.args.x c.args.serving) (siblings_at t d (may_be t) c.args.x c.args.serving) c.line-cached.result.now c.line-uncached.result.now c.line-rest.result.now = lines_hold_best c.requires.row_to_split.table served (omega arith) c.child_of-child.ensures c.sibling_of-sibling.ensures c.depth_word.ensures

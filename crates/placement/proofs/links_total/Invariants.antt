@@ -1,12 +1,8 @@
 -- `links_total`: loads times lengths, over the links above nodes 1 to n − 1.
 use mathlib.Core.Path.{◌≡◌}
-use Prim.Native.Nat.{◌-◌, ◌≤◌}
 use Rattle.model.specs.File.{tree_of}
 use Rattle.placement.specs.Passes.{total_before}
 use Rattle.placement.proofs.links_total.Given as goal
 
 abbrev pub invariant-loop-v : goal.invariant-loop-v
-invariant-loop-v l = (1 ≤ l.v) × (l.v ≤ l.n) × (l.sum.0 ≡ total_before (tree_of l.file) l.loads l.v)
-
-abbrev pub decreases-loop-v : goal.decreases-loop-v
-decreases-loop-v l = l.n - l.v
+invariant-loop-v l = l.sum.0 ≡ total_before (tree_of l.file) l.loads l.v

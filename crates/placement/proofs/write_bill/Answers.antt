@@ -1,12 +1,12 @@
 -- `write_bill`: writes the serving nodes and the loads of a set, and gives its total.
 use native.Mathlib.Omega.{arith}
 use Rattle.placement.proofs.Turns.{children_begin}
-use Rattle.placement.proofs.Written.{servings_walkable, loads_long_lem, links_bounded, bill_written}
+use Rattle.placement.proofs.Written.{loads_long_lem, links_bounded, bill_written}
 use Rattle.placement.proofs.write_bill.Goals as goal
 
 pub row-requires : goal.row-requires
 row-requires c = record {
-  walkable = servings_walkable c.requires.billable c.requires.walkable c.write_servings.ensures c.write_servings.auto.servings;
+  loads_long = c.requires.walkable.loads_long;
   begins = children_begin c.requires.walkable 0 (omega (arith, c.requires.billable.of_file.nodes, c.requires.billable.of_file.sound.some));
 }
 

@@ -1,41 +1,24 @@
 -- `count_rows`: stores for each node how many nodes the row has that begins with it.
-use mathlib.Core.Path.{◌≡◌, refl, ◌∙◌}
+use mathlib.Core.Path.{◌≡◌, ap, ◌∙◌}
+use Prim.Native.Nat.{◌-◌}
 use native.Mathlib.Omega.{arith}
-use lib.ListN.{length-set}
-use Rattle.places.proofs.Counting.{entries_kept, entries_fit, counted_last, counted_all}
+use lib.ListN.{replicate, length-take}
+use Rattle.places.specs.Places.{no_place}
+use Rattle.places.proofs.Counting.{width_same, width_other, all_none, entries_fit, counted_last, counted_all}
 use Rattle.places.proofs.count_rows.Goals as goal
 
-pub clear-requires : goal.clear-requires
-clear-requires c = (entries_fit c.requires).1
+pub slice_bounds-fill-end : goal.slice_bounds-fill-end
+slice_bounds-fill-end c = (entries_fit c.requires).1
 
-pub overflow_sub-v : goal.overflow_sub-v
-overflow_sub-v c = (entries_fit c.requires).0
+pub slice_bounds-fill-end-2 : goal.slice_bounds-fill-end-2
+slice_bounds-fill-end-2 c = let fit = entries_fit c.requires in rw length-take (omega arith)
 
 pub loop-v-init : goal.loop-v-init
-loop-v-init c = (omega (arith, entries_fit c.requires), refl, entries_kept c.requires c.clear.auto.counts, counted_last c.requires c.clear.ensures)
-
-pub count_row-requires : goal.count_row-requires
-count_row-requires c = record {
-  entries = c.loop-v.invariant.2;
-  v_nonzero = (c.loop-v-test.true, c.loop-v.invariant.0);
-  rows_counted = c.loop-v.invariant.3;
-}
-
-pub overflow_sub-v-in-loop-v : goal.overflow_sub-v-in-loop-v
-overflow_sub-v-in-loop-v c = omega arith
-
-pub loop-v-smaller : goal.loop-v-smaller
-loop-v-smaller c = omega arith
-
-pub loop-v-preserved : goal.loop-v-preserved
-loop-v-preserved c = (omega (arith, c.loop-v.invariant.0), c.count_row.auto.counts ∙ c.loop-v.invariant.1, entries_kept c.loop-v.invariant.2 c.count_row.auto.counts, c.count_row.ensures)
-
-pub bounds-counts-0 : goal.bounds-counts-0
-bounds-counts-0 c = omega (arith, entries_fit c.loop-v.invariant.2)
-
-pub shape_of-counts : goal.shape_of-counts
-shape_of-counts c = length-set c.loop-v.counts 0 0 ∙ c.loop-v.invariant.1 ∙ c.clear.auto.counts
+loop-v-init c =
+    let fit = entries_fit c.requires in
+    counted_last c.requires (all_none c.args.n _ (c.fill.ensures.after (λ y e. e) ∙ ap (λ m. replicate m no_place) (simp length-take (omega arith))))
 
 pub returns : goal.returns
-returns c = let first : c.loop-v.v ≡ 0 = omega arith in
-    counted_all c.loop-v.invariant.2 (rw first at c.loop-v.invariant.3)
+returns c = let fit = entries_fit c.requires in
+    let first : c.loop-v.v - 1 ≡ 0 = omega (arith, c.loop-v.auto.v) in
+    counted_all c.requires (rw first at c.loop-v.invariant) (width_same c.loop-v.places 0 _ (omega (arith, c.loop-v.auto.places))) (width_other c.loop-v.places 0 _)

@@ -1,54 +1,53 @@
 -- `note_places`: stores the places of the lines of an accepted file, and returns where they end.
-use mathlib.Core.Path.{refl, ◌∙◌}
+use mathlib.Core.Path.{◌≡◌, ◌∙◌}
+use mathlib.Core.List.{◌∷◌}
+use Prim.Native.Nat.{suc, ◌+◌, ◌-◌, ◌≤◌, ◌<◌}
 use native.Mathlib.Omega.{arith}
-use lib.ListN.{length-set}
+use lib.ListN.{length, length-set}
 use Rattle.tree_file.proofs.Accepted.{sizes_hold}
-use Rattle.places.proofs.Placing.{entries_of, placing_begins, placeable, placing_turns, placing_ends}
+use Rattle.places.proofs.Placing.{server, part_long, nodes_lent, back_long, nodes_back, server_kept, placing_begins, placeable, placing_turns, placing_ends}
 use Rattle.places.proofs.note_places.Goals as goal
-
-pub count_rows-requires : goal.count_rows-requires
-count_rows-requires c = entries_of c.requires.accepted_sizes c.requires.most_nodes_in_bounds.1
-
-pub note_depths-requires : goal.note_depths-requires
-note_depths-requires c = entries_of c.requires.accepted_sizes c.requires.most_nodes_in_bounds.0
-
-pub bounds-widths-0 : goal.bounds-widths-0
-bounds-widths-0 c = omega (arith, c.count_rows.auto.counts, c.requires.most_nodes_in_bounds.1)
 
 pub overflow_mul-end : goal.overflow_mul-end
 overflow_mul-end c = omega (arith, (sizes_hold c.requires.accepted_sizes).nodes)
 
-pub loop-v-init : goal.loop-v-init
-loop-v-init c = (
-  refl,
-  refl,
-  placing_begins c.requires.accepted_sizes {starts = c.note_depths.new.depths} c.count_rows.new.counts
-      (omega (arith, c.note_depths.auto.depths, c.requires.most_nodes_in_bounds.0)) (omega (arith, c.count_rows.auto.counts, c.requires.most_nodes_in_bounds.1))
-      c.note_depths.ensures c.count_rows.ensures,
-)
+pub slice_bounds-node-items-count : goal.slice_bounds-node-items-count
+slice_bounds-node-items-count c = (sizes_hold c.requires.accepted_sizes).some
 
-pub place-end-requires : goal.place-end-requires
-place-end-requires c = placeable c.requires.accepted_sizes c.loop-v.invariant.2 c.loop-v-test.true
+pub slice_bounds-node-items-start : goal.slice_bounds-node-items-start
+slice_bounds-node-items-start c = (sizes_hold c.requires.accepted_sizes).some
 
-pub overflow_add-v : goal.overflow_add-v
-overflow_add-v c = omega arith
+pub slice_bounds-node-items-end : goal.slice_bounds-node-items-end
+slice_bounds-node-items-end c =
+    let long : c.args.tree.nodes ≤ length c.note_depths.new.places = omega (arith, c.note_depths.auto.places, c.count_rows.auto.places, (sizes_hold c.requires.accepted_sizes).nodes) in
+    rw length-set long
 
-pub loop-v-smaller : goal.loop-v-smaller
-loop-v-smaller c = omega arith
+pub loop-node-init : goal.loop-node-init
+loop-node-init c =
+    placing_begins c.requires.accepted_sizes _ _ (nodes_lent c.note_depths.new.places c.args.tree.nodes) c.note_depths.ensures.depths
+    (λ v h. c.note_depths.ensures.widths_kept v h ∙ c.count_rows.ensures v h)
 
-pub loop-v-preserved : goal.loop-v-preserved
-loop-v-preserved c = (
-  c.place-end.auto.starts ∙ c.loop-v.invariant.0,
-  c.place-end.auto.widths ∙ c.loop-v.invariant.1,
-  placing_turns c.requires.accepted_sizes c.loop-v.invariant.2 c.loop-v-test.true c.place-end.ensures.starts_after c.place-end.ensures.widths_after c.place-end.ensures.value,
-)
+pub place_node-end-requires : goal.place_node-end-requires
+place_node-end-requires c =
+    let long : c.args.tree.nodes ≤ length c.note_depths.new.places = omega (arith, c.note_depths.auto.places, c.count_rows.auto.places, (sizes_hold c.requires.accepted_sizes).nodes) in
+    let below : suc c.loop-node.node-index < c.args.tree.nodes = omega (arith, c.loop-node-test.true, part_long c.note_depths.new.places c.args.tree.nodes long) in
+    placeable c.requires.accepted_sizes c.loop-node.invariant (omega arith) below
 
-pub shape_of-starts : goal.shape_of-starts
-shape_of-starts c = c.loop-v.invariant.0 ∙ c.note_depths.auto.depths
-
-pub shape_of-widths : goal.shape_of-widths
-shape_of-widths c = c.loop-v.invariant.1 ∙ length-set c.count_rows.new.counts 0 1 ∙ c.count_rows.auto.counts
+pub loop-node-preserved : goal.loop-node-preserved
+loop-node-preserved c =
+    let long : c.args.tree.nodes ≤ length c.note_depths.new.places = omega (arith, c.note_depths.auto.places, c.count_rows.auto.places, (sizes_hold c.requires.accepted_sizes).nodes) in
+    let below : suc c.loop-node.node-index < c.args.tree.nodes = omega (arith, c.loop-node-test.true, part_long c.note_depths.new.places c.args.tree.nodes long) in
+    let there : suc c.loop-node.node-index < length (server ∷ c.loop-node.node-items) = omega (arith, c.loop-node-test.true, c.loop-node.auto.node-items) in
+    let next : suc c.loop-node.node-index + 1 ≡ suc (c.loop-node.node-index + 1) = omega arith in
+    rw next at (placing_turns c.requires.accepted_sizes c.loop-node.invariant (omega arith) below there c.place_node-end.ensures.node_after c.place_node-end.ensures.value)
 
 pub returns : goal.returns
-returns c = let whole = placing_ends c.requires.accepted_sizes c.loop-v.invariant.2 c.loop-v-test.false in
-    record { value = whole.0; places = whole.1 }
+returns c =
+    let some = (sizes_hold c.requires.accepted_sizes).some in
+    let long : c.args.tree.nodes ≤ length c.note_depths.new.places = omega (arith, c.note_depths.auto.places, c.count_rows.auto.places, (sizes_hold c.requires.accepted_sizes).nodes) in
+    let part = part_long c.note_depths.new.places c.args.tree.nodes long in
+    let same : length c.loop-node.node-items ≡ c.args.tree.nodes - 1 = c.loop-node.auto.node-items ∙ part in
+    let last : suc c.loop-node.node-index ≡ c.args.tree.nodes = omega (arith, c.loop-node-test.false, c.loop-node.auto.node-index-end, part) in
+    let ends = placing_ends c.requires.accepted_sizes _ _ (nodes_back c.note_depths.new.places c.args.tree.nodes _ long some same) c.loop-node.invariant last
+    (back_long c.note_depths.new.places c.args.tree.nodes _ long some same) (server_kept c.note_depths.new.places c.args.tree.nodes _ long some same) in
+    record { value = ends.0; places = ends.1 }

@@ -1,12 +1,8 @@
 -- `note_places`: stores the places of the lines of an accepted file, and returns where they end.
-use mathlib.Core.Path.{◌≡◌}
-use Prim.Native.Nat.{◌-◌}
-use lib.ListN.{length}
-use Rattle.places.proofs.Placing.{Placing}
+use mathlib.Core.List.{◌∷◌}
+use Prim.Native.Nat.{suc}
+use Rattle.places.proofs.Placing.{server, Placing}
 use Rattle.places.proofs.note_places.Given as goal
 
-abbrev pub invariant-loop-v : goal.invariant-loop-v
-invariant-loop-v l = (length l.starts ≡ length l.initial.starts) × (length l.widths ≡ length l.initial.widths) × Placing l.file l.tree l.starts l.widths l.v l.end
-
-abbrev pub decreases-loop-v : goal.decreases-loop-v
-decreases-loop-v l = l.n - l.v
+abbrev pub invariant-loop-node : goal.invariant-loop-node
+invariant-loop-node l = Placing l.file l.tree (server ∷ l.node-items) (suc l.node-index) l.end

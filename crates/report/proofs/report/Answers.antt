@@ -1,21 +1,32 @@
 -- `report`: a refusal changes nothing, and an accepted call leaves both answers, which meet demand 3.
-use mathlib.Core.Path.{sym, ap, ◌∙◌}
-use Rattle.tree_file.specs.Checks.{answer_of}
-use Rattle.lent.proofs.Asked.{lent_sizes}
-use Rattle.report.proofs.Answers.{report_refused_lem, report_short, report_lent, report_written}
+use mathlib.Core.Path.{◌≡◌, sym, ◌∙◌}
+use Rattle.model.proofs.Verdicts.{ask_passed}
+use Rattle.tree_file.proofs.Accepted.{accepted_long}
+use Rattle.tree_file.proofs.Rulings.{asked}
+use Rattle.lent.proofs.Asked.{lent_told, lent_sizes}
+use Rattle.report.proofs.Answers.{report_refused, report_before_buffers, report_asks_buffers, report_lent, report_written}
 use Rattle.report.proofs.report.Goals as goal
 
-pub buffers_long-requires : goal.buffers_long-requires
-buffers_long-requires c = (lent_sizes _ _ (ap answer_of (sym c.in-Accepted.is) ∙ c.check-checked.ensures)).budget
+pub returns-in_err-tree : goal.returns-in_err-tree
+returns-in_err-tree c = report_refused _ _ _ _ c.from_residual.ensures.1 (report_before_buffers _ _ c.in_err-tree.ensures)
 
-pub returns-then-not-buffers_long : goal.returns-then-not-buffers_long
-returns-then-not-buffers_long c = report_short _ _ (ap answer_of (sym c.in-Accepted.is) ∙ c.check-checked.ensures) (sym c.buffers_long.ensures ∙ c.if-not-buffers_long.true)
+pub buffers_long-requires : goal.buffers_long-requires
+buffers_long-requires c = (lent_sizes _ _ c.in_ok-tree.ensures).budget
+
+pub returns-in_err-ask : goal.returns-in_err-ask
+returns-in_err-ask c =
+    report_refused _ _ _ _ c.from_residual-in_err-ask.ensures.1
+    (asked 14 0 c.in_err-ask.ensures c.buffers_long.ensures ∙ report_asks_buffers _ _ c.in_ok-tree.ensures)
+
+pub of-requires : goal.of-requires
+of-requires c = accepted_long _ (lent_told _ c.in_ok-tree.ensures).0
 
 pub make_report-requires : goal.make_report-requires
-make_report-requires c = report_lent _ _ (ap answer_of (sym c.in-Accepted.is) ∙ c.check-checked.ensures) (sym c.buffers_long.ensures ∙ c.if-not-buffers_long.false)
+make_report-requires c =
+    let long = ask_passed 14 0 _ (sym (asked 14 0 c.in_ok-ask.ensures c.buffers_long.ensures)) in
+    rw c.of.ensures (report_lent _ _ c.in_ok-tree.ensures long)
 
-pub returns-else-not-buffers_long : goal.returns-else-not-buffers_long
-returns-else-not-buffers_long c = report_written _ _ (ap answer_of (sym c.in-Accepted.is) ∙ c.check-checked.ensures) (sym c.buffers_long.ensures ∙ c.if-not-buffers_long.false) c.make_report.ensures
-
-pub returns-in-Refused : goal.returns-in-Refused
-returns-in-Refused c = report_refused_lem _ _ (ap answer_of (sym c.in-Refused.is) ∙ c.check-checked.ensures)
+pub returns : goal.returns
+returns c =
+    let long = ask_passed 14 0 _ (sym (asked 14 0 c.in_ok-ask.ensures c.buffers_long.ensures)) in
+    report_written _ _ c.in_ok-tree.ensures long (rw c.of.ensures at c.make_report.ensures)

@@ -14,20 +14,20 @@ use Rattle.report_text.proofs.put_lines.Goals as goal
 
 pub loop-b-init : goal.loop-b-init
 unfolding flat_map range
-loop-b-init c = (omega arith, within_none (0 * line_room) _ _)
+loop-b-init c = within_none (0 * line_room) _ _
 
 pub put_line-end-requires : goal.put_line-end-requires
 put_line-end-requires c = record {
   report_buffers = c.requires.report_buffers;
-  b_le_k = (search rules, omega (arith, append_keeps_length c.loop-b.invariant.1.appended));
+  b_le_k = (search rules, omega (arith, append_keeps_length c.loop-b.invariant.appended));
 }
 
 pub loop-b-preserved : goal.loop-b-preserved
-loop-b-preserved c = (search rules, within_next c.loop-b.b (rw add-one (flat_snoc _ _)) c.loop-b.invariant.1 c.put_line-end.ensures)
+loop-b-preserved c = within_next c.loop-b.b (rw add-one (flat_snoc _ _)) c.loop-b.invariant c.put_line-end.ensures
 
 pub shape_of-text : goal.shape_of-text
-shape_of-text c = append_keeps_length c.loop-b.invariant.1.appended
+shape_of-text c = append_keeps_length c.loop-b.invariant.appended
 
 pub returns : goal.returns
 returns c = let all : c.loop-b.b ≡ suc c.args.k = omega arith in
-    record { appended = rw all at c.loop-b.invariant.1.appended; within = omega arith }
+    record { appended = rw all at c.loop-b.invariant.appended; within = omega arith }

@@ -8,4 +8,4 @@ pub returns-then-entry-eq0 : goal.returns-then-entry-eq0
 returns-then-entry-eq0 c = rw (zero_no_word c.if-entry-eq0.true) (within_none word_room _ _)
 
 pub returns : goal.returns
-returns c = rw (node_one_word c.if-entry-eq0.false) c.put_word.ensures
+returns c = rw (node_one_word c.if-entry-eq0.false) (rw c.from.ensures at c.put_word.ensures)

@@ -1,11 +1,9 @@
 -- `put_nodes`: appends the nodes of a row.
-use Prim.Native.Nat.{◌*◌, ◌-◌, ◌≤◌}
-use Rattle.laws.specs.Lists.{part, those}
+use Prim.Native.Nat.{◌*◌}
+use lib.ListN.{take}
+use Rattle.laws.specs.Lists.{those}
 use Rattle.report_text.specs.Lines.{words, is_node, word_room, AppendedWithin}
 use Rattle.report_text.proofs.put_nodes.Given as goal
 
-abbrev pub invariant-loop-i : goal.invariant-loop-i
-invariant-loop-i l = (l.i ≤ l.k) × AppendedWithin (l.i * word_room) l.at (words (those is_node (part l.rows l.start l.i))) l.initial.text l.text l.end
-
-abbrev pub decreases-loop-i : goal.decreases-loop-i
-decreases-loop-i l = l.k - l.i
+abbrev pub invariant-loop-entry : goal.invariant-loop-entry
+invariant-loop-entry l = AppendedWithin (l.entry-index * word_room) l.at (words (those is_node (take l.entry-index l.row))) l.initial.text l.text l.end

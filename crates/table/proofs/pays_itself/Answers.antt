@@ -4,18 +4,12 @@ use Rattle.best_rows.specs.Best.{cap}
 use Rattle.node_words.proofs.Words.{room_record}
 use Rattle.table.proofs.pays_itself.Goals as goal
 
-pub pays-price-requires : goal.pays-price-requires
-pays-price-requires c = record { client = c.requires.client; size_value = c.requires.size_value }
+pub is_open-requires : goal.is_open-requires
+is_open-requires c = room_record c.requires.client.nodes c.requires.client.node
 
-pub open_in-requires : goal.open_in-requires
-open_in-requires c = record {
-  size_value = c.requires.size_value.0;
-  in_file = room_record c.requires.client.nodes c.requires.client.node;
-}
-
-pub returns-then-open_in : goal.returns-then-open_in
-returns-then-open_in c = rw (sym c.open_in.ensures ∙ c.if-open_in.true) c.pays-price.ensures
+pub returns-then-is_open : goal.returns-then-is_open
+returns-then-is_open c = rw (sym c.is_open.ensures ∙ c.if-is_open.true) c.pays-price.ensures
 
 pub returns : goal.returns
 unfolding cap
-returns c = rw (sym c.open_in.ensures ∙ c.if-open_in.false)
+returns c = rw (sym c.is_open.ensures ∙ c.if-is_open.false)

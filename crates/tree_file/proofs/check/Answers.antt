@@ -1,23 +1,20 @@
 -- `check`: the rules about the file, and n, k and h of an accepted file.
 use mathlib.Core.Path.{sym}
 use Rattle.tree_file.proofs.Accepted.{accepted_long}
-use Rattle.tree_file.proofs.Services.{told, sizes_answered, sizes_refused}
+use Rattle.tree_file.proofs.Rulings.{answered_as}
+use Rattle.tree_file.proofs.Services.{sizes_answered}
 use Rattle.tree_file.proofs.check.Goals as goal
 
-pub count_of-nodes-requires : goal.count_of-nodes-requires
-count_of-nodes-requires c = accepted_long _ (sym (told c.in-Passed.is c.file_ruling-ruling.ensures))
+pub returns-in_err-file_ruling : goal.returns-in_err-file_ruling
+returns-in_err-file_ruling c = answered_as _ _ _ _ c.from_residual.ensures.1 c.in_err-file_ruling.ensures
 
-pub budget_of-budget-requires : goal.budget_of-budget-requires
-budget_of-budget-requires c = accepted_long _ (sym (told c.in-Passed.is c.file_ruling-ruling.ensures))
+pub of-file-requires : goal.of-file-requires
+of-file-requires c = accepted_long _ (sym c.in_ok-file_ruling.ensures)
 
 pub height_of-height-requires : goal.height_of-height-requires
-height_of-height-requires c = record {
-  file_value = sym (told c.in-Passed.is c.file_ruling-ruling.ensures);
-  n_value = c.count_of-nodes.ensures;
-}
+height_of-height-requires c = rw c.of-file.ensures (sym c.in_ok-file_ruling.ensures)
 
-pub returns-in-Passed : goal.returns-in-Passed
-returns-in-Passed c = sizes_answered _ _ (told c.in-Passed.is c.file_ruling-ruling.ensures) c.count_of-nodes.ensures c.budget_of-budget.ensures c.height_of-height.ensures
-
-pub returns-in-Broken : goal.returns-in-Broken
-returns-in-Broken c = sizes_refused _ _ _ (told c.in-Broken.is c.file_ruling-ruling.ensures)
+pub returns : goal.returns
+returns c =
+    sizes_answered _ _ c.in_ok-file_ruling.ensures (rw c.of-file.ensures at c.count-nodes.ensures) (rw c.of-file.ensures at c.budget-budget.ensures)
+    (rw c.of-file.ensures at c.height_of-height.ensures)

@@ -7,13 +7,13 @@ pub returns-then-v-eq0 : goal.returns-then-v-eq0
 returns-then-v-eq0 c = server_depth _ _ c.if-v-eq0.true
 
 pub offset_bounds-depths-parent : goal.offset_bounds-depths-parent
-offset_bounds-depths-parent c = omega (arith, parent_first_lem _ _ _ c.requires.climbable c.if-v-eq0.false c.parent_of-parent.ensures, c.requires.climbable.here.node)
+offset_bounds-depths-parent c = omega (arith, parent_first_lem _ _ _ c.requires.climbable c.if-v-eq0.false c.parent-parent.ensures, c.requires.climbable.here.node)
 
 pub bounds-depths-parent : goal.bounds-depths-parent
-bounds-depths-parent c = omega (arith, parent_first_lem _ _ _ c.requires.climbable c.if-v-eq0.false c.parent_of-parent.ensures, c.requires.climbable.here.node, c.requires.depths_to.room)
+bounds-depths-parent c = omega (arith, parent_first_lem _ _ _ c.requires.climbable c.if-v-eq0.false c.parent-parent.ensures, c.requires.climbable.here.node, c.requires.depths_to.room)
 
 pub overflow_add-result : goal.overflow_add-result
-overflow_add-result c = omega (arith, depth_small _ _ _ c.requires.climbable c.if-v-eq0.false c.parent_of-parent.ensures _ c.requires.depths_to)
+overflow_add-result c = omega (arith, depth_small _ _ _ c.requires.climbable c.if-v-eq0.false c.parent-parent.ensures _ c.requires.depths_to)
 
 pub returns : goal.returns
-returns c = one_deeper _ _ _ c.requires.climbable c.if-v-eq0.false c.parent_of-parent.ensures _ c.requires.depths_to
+returns c = one_deeper _ _ _ c.requires.climbable c.if-v-eq0.false c.parent-parent.ensures _ c.requires.depths_to

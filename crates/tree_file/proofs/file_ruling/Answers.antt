@@ -1,95 +1,87 @@
--- Rules 1 to 6 asked one after the other: what each test shows, and the verdict at each answer.
-use native.Mathlib.Omega.{arith}
-use mathlib.Core.Path.{◌≡◌, sym, ap, ◌∙◌}
-use mathlib.Core.Bool.{true, false}
+-- Rules 1 to 6, and then the records, asked one after the other.
+use mathlib.Core.Path.{ap, ◌∙◌}
 use lib.Dec.{leb, eqb}
 use lib.ListN.{length}
-use borrow.Author.Tests.{le-leb, lt-leb, eq-eqb, ne_eqb}
-use Rattle.laws.proofs.Bools.{within_failed, below_held, below_failed}
-use Rattle.model.specs.File.{most_nodes, most_budget, first_version, third_version, header_length, version_of, count_of, budget_of, record_at}
-use Rattle.model.specs.Rules.{marked, records_verdict, file_verdict}
+use Rattle.model.specs.File.{most_nodes, most_budget, first_version, third_version, record_at}
+use Rattle.model.specs.Rules.{records_verdict, file_verdict}
+use Rattle.tree_file.proofs.Rulings.{asked, passes, stops, both_pass, first_breaks, second_breaks, refused_as}
 use Rattle.tree_file.proofs.file_ruling.Goals as goal
 
-pub returns-then-file-lt-HEADER : goal.returns-then-file-lt-HEADER
+pub returns-in_err-ask : goal.returns-in_err-ask
 unfolding file_verdict
-returns-then-file-lt-HEADER c = simp (lt-leb _ _ c.if-file-lt-HEADER.true)
+returns-in_err-ask c =
+    refused_as _ _ c.from_residual.ensures.1
+    (stops _ _ c.in_err-ask.ensures)
 
-pub returns-then-not-is_marked : goal.returns-then-not-is_marked
+pub returns-in_err-ask-2 : goal.returns-in_err-ask-2
 unfolding file_verdict
-returns-then-not-is_marked c =
-    let long : leb header_length (length c.args.file.now) ≡ true = le-leb _ _ (omega arith) in
-    simp (long, (sym c.is_marked.ensures ∙ c.if-not-is_marked.true))
+returns-in_err-ask-2 c =
+    refused_as _ _ c.from_residual-in_err-ask-2.ensures.1
+    (passes _ c.in_ok-ask.ensures
+    (stops _ _ (asked _ _ c.in_err-ask-2.ensures c.is_marked.ensures)))
 
-pub returns-then-version-lt-FIRST_VERSION : goal.returns-then-version-lt-FIRST_VERSION
+pub returns-in_err-ask-3 : goal.returns-in_err-ask-3
 unfolding file_verdict
-returns-then-version-lt-FIRST_VERSION c =
-    let long : leb header_length (length c.args.file.now) ≡ true = le-leb _ _ (omega arith) in
-    let marks : marked c.args.file.now ≡ true = (sym c.is_marked.ensures ∙ c.if-not-is_marked.false) in
-    simp (long, marks, below_failed c.version_of-version.ensures c.if-version-lt-FIRST_VERSION.true)
+returns-in_err-ask-3 c =
+    refused_as _ _ c.from_residual-in_err-ask-3.ensures.1
+    (passes _ c.in_ok-ask.ensures
+    (passes _ (asked _ _ c.in_ok-ask-2.ensures c.is_marked.ensures)
+    (stops _ _ (first_breaks _ 3 0 _ _ (asked _ _ c.in_err-ask-3.ensures (ap (λ v. leb first_version v) (rw c.of-file.ensures at c.version-version.ensures)))))))
 
-pub returns-then-version-gt-THIRD_VERSION : goal.returns-then-version-gt-THIRD_VERSION
+pub returns-in_err-ask-4 : goal.returns-in_err-ask-4
 unfolding file_verdict
-returns-then-version-gt-THIRD_VERSION c =
-    let long : leb header_length (length c.args.file.now) ≡ true = le-leb _ _ (omega arith) in
-    let marks : marked c.args.file.now ≡ true = (sym c.is_marked.ensures ∙ c.if-not-is_marked.false) in
-    let first : leb first_version (version_of c.args.file.now) ≡ true = le-leb _ _ (omega arith) in
-    simp (long, marks, first, within_failed c.version_of-version.ensures c.if-version-gt-THIRD_VERSION.true)
+returns-in_err-ask-4 c =
+    refused_as _ _ c.from_residual-in_err-ask-4.ensures.1
+    (passes _ c.in_ok-ask.ensures
+    (passes _ (asked _ _ c.in_ok-ask-2.ensures c.is_marked.ensures)
+    (stops _ _ (second_breaks _ 3 0 _ _ (asked _ _ c.in_ok-ask-3.ensures (ap (λ v. leb first_version v) (rw c.of-file.ensures at c.version-version.ensures))) (asked _ _ c.in_err-ask-4.ensures (ap (λ v. leb v third_version) (rw c.of-file.ensures at c.version-version.ensures)))))))
 
-pub returns-then-n-lt1 : goal.returns-then-n-lt1
+pub returns-in_err-ask-5 : goal.returns-in_err-ask-5
 unfolding file_verdict
-returns-then-n-lt1 c =
-    let long : leb header_length (length c.args.file.now) ≡ true = le-leb _ _ (omega arith) in
-    let marks : marked c.args.file.now ≡ true = (sym c.is_marked.ensures ∙ c.if-not-is_marked.false) in
-    let first : leb first_version (version_of c.args.file.now) ≡ true = le-leb _ _ (omega arith) in
-    let newest : leb (version_of c.args.file.now) third_version ≡ true = le-leb _ _ (omega arith) in
-    simp (long, marks, first, newest, below_failed c.count_of-n.ensures c.if-n-lt1.true)
+returns-in_err-ask-5 c =
+    refused_as _ _ c.from_residual-in_err-ask-5.ensures.1
+    (passes _ c.in_ok-ask.ensures
+    (passes _ (asked _ _ c.in_ok-ask-2.ensures c.is_marked.ensures)
+    (passes _ (both_pass 3 0 _ _ (asked _ _ c.in_ok-ask-3.ensures (ap (λ v. leb first_version v) (rw c.of-file.ensures at c.version-version.ensures))) (asked _ _ c.in_ok-ask-4.ensures (ap (λ v. leb v third_version) (rw c.of-file.ensures at c.version-version.ensures))))
+    (stops _ _ (first_breaks _ 4 0 _ _ (asked _ _ c.in_err-ask-5.ensures (ap (λ n. leb 1 n) (rw c.of-file.ensures at c.count-n.ensures))))))))
 
-pub returns-then-n-gt-NODES : goal.returns-then-n-gt-NODES
+pub returns-in_err-ask-6 : goal.returns-in_err-ask-6
 unfolding file_verdict
-returns-then-n-gt-NODES c =
-    let long : leb header_length (length c.args.file.now) ≡ true = le-leb _ _ (omega arith) in
-    let marks : marked c.args.file.now ≡ true = (sym c.is_marked.ensures ∙ c.if-not-is_marked.false) in
-    let first : leb first_version (version_of c.args.file.now) ≡ true = le-leb _ _ (omega arith) in
-    let newest : leb (version_of c.args.file.now) third_version ≡ true = le-leb _ _ (omega arith) in
-    let some : leb 1 (count_of c.args.file.now) ≡ true = below_held c.count_of-n.ensures c.if-n-lt1.false in
-    simp (long, marks, first, newest, some, within_failed c.count_of-n.ensures c.if-n-gt-NODES.true)
+returns-in_err-ask-6 c =
+    refused_as _ _ c.from_residual-in_err-ask-6.ensures.1
+    (passes _ c.in_ok-ask.ensures
+    (passes _ (asked _ _ c.in_ok-ask-2.ensures c.is_marked.ensures)
+    (passes _ (both_pass 3 0 _ _ (asked _ _ c.in_ok-ask-3.ensures (ap (λ v. leb first_version v) (rw c.of-file.ensures at c.version-version.ensures))) (asked _ _ c.in_ok-ask-4.ensures (ap (λ v. leb v third_version) (rw c.of-file.ensures at c.version-version.ensures))))
+    (stops _ _ (second_breaks _ 4 0 _ _ (asked _ _ c.in_ok-ask-5.ensures (ap (λ n. leb 1 n) (rw c.of-file.ensures at c.count-n.ensures))) (asked _ _ c.in_err-ask-6.ensures (ap (λ n. leb n most_nodes) (rw c.of-file.ensures at c.count-n.ensures))))))))
 
-pub returns-then-budget_of-gt-BUDGET : goal.returns-then-budget_of-gt-BUDGET
+pub returns-in_err-ask-7 : goal.returns-in_err-ask-7
 unfolding file_verdict
-returns-then-budget_of-gt-BUDGET c =
-    let long : leb header_length (length c.args.file.now) ≡ true = le-leb _ _ (omega arith) in
-    let marks : marked c.args.file.now ≡ true = (sym c.is_marked.ensures ∙ c.if-not-is_marked.false) in
-    let first : leb first_version (version_of c.args.file.now) ≡ true = le-leb _ _ (omega arith) in
-    let newest : leb (version_of c.args.file.now) third_version ≡ true = le-leb _ _ (omega arith) in
-    let some : leb 1 (count_of c.args.file.now) ≡ true = below_held c.count_of-n.ensures c.if-n-lt1.false in
-    let few : leb (count_of c.args.file.now) most_nodes ≡ true = le-leb _ _ (omega arith) in
-    simp (long, marks, first, newest, some, few, within_failed c.budget_of.ensures c.if-budget_of-gt-BUDGET.true)
+returns-in_err-ask-7 c =
+    refused_as _ _ c.from_residual-in_err-ask-7.ensures.1
+    (passes _ c.in_ok-ask.ensures
+    (passes _ (asked _ _ c.in_ok-ask-2.ensures c.is_marked.ensures)
+    (passes _ (both_pass 3 0 _ _ (asked _ _ c.in_ok-ask-3.ensures (ap (λ v. leb first_version v) (rw c.of-file.ensures at c.version-version.ensures))) (asked _ _ c.in_ok-ask-4.ensures (ap (λ v. leb v third_version) (rw c.of-file.ensures at c.version-version.ensures))))
+    (passes _ (both_pass 4 0 _ _ (asked _ _ c.in_ok-ask-5.ensures (ap (λ n. leb 1 n) (rw c.of-file.ensures at c.count-n.ensures))) (asked _ _ c.in_ok-ask-6.ensures (ap (λ n. leb n most_nodes) (rw c.of-file.ensures at c.count-n.ensures))))
+    (stops _ _ (asked _ _ c.in_err-ask-7.ensures (ap (λ k. leb k most_budget) (rw c.of-file.ensures at c.budget.ensures))))))))
 
-pub returns-then-file-record_at : goal.returns-then-file-record_at
+pub returns-in_err-ask-8 : goal.returns-in_err-ask-8
 unfolding file_verdict
-returns-then-file-record_at c =
-    let long : leb header_length (length c.args.file.now) ≡ true = le-leb _ _ (omega arith) in
-    let marks : marked c.args.file.now ≡ true = (sym c.is_marked.ensures ∙ c.if-not-is_marked.false) in
-    let first : leb first_version (version_of c.args.file.now) ≡ true = le-leb _ _ (omega arith) in
-    let newest : leb (version_of c.args.file.now) third_version ≡ true = le-leb _ _ (omega arith) in
-    let some : leb 1 (count_of c.args.file.now) ≡ true = below_held c.count_of-n.ensures c.if-n-lt1.false in
-    let few : leb (count_of c.args.file.now) most_nodes ≡ true = le-leb _ _ (omega arith) in
-    let small_budget : leb (budget_of c.args.file.now) most_budget ≡ true = le-leb _ _ (omega arith) in
-    let end : let s = c.args.file.now in c.record_at.result ≡ record_at s (count_of s) = c.record_at.ensures ∙ ap (record_at _) c.count_of-n.ensures in
-    let other : let s = c.args.file.now in eqb (length s) (record_at s (count_of s)) ≡ false = ne_eqb _ _ (λ e. omega arith) in
-    simp (long, marks, first, newest, some, few, small_budget, other)
+returns-in_err-ask-8 c =
+    refused_as _ _ c.from_residual-in_err-ask-8.ensures.1
+    (passes _ c.in_ok-ask.ensures
+    (passes _ (asked _ _ c.in_ok-ask-2.ensures c.is_marked.ensures)
+    (passes _ (both_pass 3 0 _ _ (asked _ _ c.in_ok-ask-3.ensures (ap (λ v. leb first_version v) (rw c.of-file.ensures at c.version-version.ensures))) (asked _ _ c.in_ok-ask-4.ensures (ap (λ v. leb v third_version) (rw c.of-file.ensures at c.version-version.ensures))))
+    (passes _ (both_pass 4 0 _ _ (asked _ _ c.in_ok-ask-5.ensures (ap (λ n. leb 1 n) (rw c.of-file.ensures at c.count-n.ensures))) (asked _ _ c.in_ok-ask-6.ensures (ap (λ n. leb n most_nodes) (rw c.of-file.ensures at c.count-n.ensures))))
+    (passes _ (asked _ _ c.in_ok-ask-7.ensures (ap (λ k. leb k most_budget) (rw c.of-file.ensures at c.budget.ensures)))
+    (stops _ _ (asked _ _ c.in_err-ask-8.ensures (ap (λ e. eqb (length c.args.file.now) e) (rw c.of-file.ensures at c.record_at.ensures ∙ ap (record_at c.args.file.now) (rw c.of-file.ensures at c.count-n.ensures))))))))))
 
 pub returns : goal.returns
 unfolding file_verdict
 returns c =
-    let long : leb header_length (length c.args.file.now) ≡ true = le-leb _ _ (omega arith) in
-    let marks : marked c.args.file.now ≡ true = (sym c.is_marked.ensures ∙ c.if-not-is_marked.false) in
-    let first : leb first_version (version_of c.args.file.now) ≡ true = le-leb _ _ (omega arith) in
-    let newest : leb (version_of c.args.file.now) third_version ≡ true = le-leb _ _ (omega arith) in
-    let some : leb 1 (count_of c.args.file.now) ≡ true = below_held c.count_of-n.ensures c.if-n-lt1.false in
-    let few : leb (count_of c.args.file.now) most_nodes ≡ true = le-leb _ _ (omega arith) in
-    let small_budget : leb (budget_of c.args.file.now) most_budget ≡ true = le-leb _ _ (omega arith) in
-    let end : let s = c.args.file.now in c.record_at.result ≡ record_at s (count_of s) = c.record_at.ensures ∙ ap (record_at _) c.count_of-n.ensures in
-    let exact : let s = c.args.file.now in eqb (length s) (record_at s (count_of s)) ≡ true = eq-eqb _ _ (c.if-file-record_at.false ∙ end) in
-    simp (long, marks, first, newest, some, few, small_budget, exact)
-    (c.records_ruling.ensures ∙ ap (records_verdict _) c.count_of-n.ensures)
+    passes _ c.in_ok-ask.ensures
+    (passes _ (asked _ _ c.in_ok-ask-2.ensures c.is_marked.ensures)
+    (passes _ (both_pass 3 0 _ _ (asked _ _ c.in_ok-ask-3.ensures (ap (λ v. leb first_version v) (rw c.of-file.ensures at c.version-version.ensures))) (asked _ _ c.in_ok-ask-4.ensures (ap (λ v. leb v third_version) (rw c.of-file.ensures at c.version-version.ensures))))
+    (passes _ (both_pass 4 0 _ _ (asked _ _ c.in_ok-ask-5.ensures (ap (λ n. leb 1 n) (rw c.of-file.ensures at c.count-n.ensures))) (asked _ _ c.in_ok-ask-6.ensures (ap (λ n. leb n most_nodes) (rw c.of-file.ensures at c.count-n.ensures))))
+    (passes _ (asked _ _ c.in_ok-ask-7.ensures (ap (λ k. leb k most_budget) (rw c.of-file.ensures at c.budget.ensures)))
+    (passes _ (asked _ _ c.in_ok-ask-8.ensures (ap (λ e. eqb (length c.args.file.now) e) (rw c.of-file.ensures at c.record_at.ensures ∙ ap (record_at c.args.file.now) (rw c.of-file.ensures at c.count-n.ensures))))
+    (rw c.of-file.ensures at c.records_ruling.ensures ∙ ap (records_verdict c.args.file.now) (rw c.of-file.ensures at c.count-n.ensures)))))))

@@ -9,14 +9,14 @@ loop-x-init c = (climb_begins _ _ c.requires, refl)
 pub returns-then-x-eq0 : goal.returns-then-x-eq0
 returns-then-x-eq0 c = seek_misses _ _ _ _ c.loop-x.invariant c.if-x-eq0.true c.loop-x-test.true
 
-pub parent_of-x-requires : goal.parent_of-x-requires
-parent_of-x-requires c = record_below _ _ _ c.loop-x.invariant.0
+pub parent-x-requires : goal.parent-x-requires
+parent-x-requires c = record_below _ _ _ c.loop-x.invariant.0
 
 pub loop-x-smaller : goal.loop-x-smaller
-loop-x-smaller c = parent_less _ _ _ _ c.loop-x.invariant.0 c.if-x-eq0.false c.parent_of-x.ensures
+loop-x-smaller c = parent_less _ _ _ _ c.loop-x.invariant.0 c.if-x-eq0.false c.parent-x.ensures
 
 pub loop-x-preserved : goal.loop-x-preserved
-loop-x-preserved c = seek_turns _ _ _ _ _ c.loop-x.invariant c.if-x-eq0.false c.loop-x-test.true c.parent_of-x.ensures
+loop-x-preserved c = seek_turns _ _ _ _ _ c.loop-x.invariant c.if-x-eq0.false c.loop-x-test.true c.parent-x.ensures
 
 pub returns : goal.returns
 returns c = seek_meets _ _ _ _ c.loop-x.invariant c.loop-x-test.false

@@ -1,36 +1,29 @@
 -- `record_place`: the place of node v's record in the file, 0 for none.
-use mathlib.Core.Path.{◌≡◌, sym, ◌∙◌}
+use mathlib.Core.Path.{◌≡◌, sym, ap, ◌∙◌}
 use native.Mathlib.Omega.{arith}
-use Rattle.model.specs.Rules.{passed, file_verdict}
+use Rattle.model.specs.File.{count_of, record_at}
 use Rattle.model.proofs.Accepted.{accepted_header}
 use Rattle.model.proofs.Told.{place_refused_lem, place_beyond, place_here}
 use Rattle.tree_file.proofs.Accepted.{accepted_long}
-use Rattle.tree_file.proofs.Services.{told}
 use Rattle.tree_file.proofs.record_place.Goals as goal
 
-pub count_of-nodes-requires : goal.count_of-nodes-requires
-count_of-nodes-requires c =
-    let passes : file_verdict c.args.file.now ≡ passed = sym (told c.in-Passed.is c.file_ruling-ruling.ensures) in
-    accepted_long _ passes
+pub of-file-requires : goal.of-file-requires
+of-file-requires c = accepted_long _ (sym c.in-Ok.ensures)
 
-pub returns-then-nodes-v : goal.returns-then-nodes-v
-returns-then-nodes-v c =
-    let passes : file_verdict c.args.file.now ≡ passed = sym (told c.in-Passed.is c.file_ruling-ruling.ensures) in
-    sym (place_beyond _ _ passes (omega (arith, c.count_of-nodes.ensures, c.if-nodes-v.true)))
+pub returns-then-count-v : goal.returns-then-count-v
+returns-then-count-v c =
+    let count : c.count.result ≡ count_of c.args.file.now = rw c.of-file.ensures at c.count.ensures in
+    sym (place_beyond _ _ (sym c.in-Ok.ensures) (omega arith))
 
 pub record_at-requires : goal.record_at-requires
 record_at-requires c =
-    let passes : file_verdict c.args.file.now ≡ passed = sym (told c.in-Passed.is c.file_ruling-ruling.ensures) in
-    let ok = passes in
-    record {
-      header_length_in_bounds = accepted_long _ ok;
-      v_le_most_nodes = omega (arith, c.count_of-nodes.ensures, c.if-nodes-v.false, (accepted_header _ ok).few);
-    }
+    let count : c.count.result ≡ count_of c.args.file.now = rw c.of-file.ensures at c.count.ensures in
+    omega (arith, (accepted_header _ (sym c.in-Ok.ensures)).few)
 
-pub returns-else-nodes-v : goal.returns-else-nodes-v
-returns-else-nodes-v c =
-    let passes : file_verdict c.args.file.now ≡ passed = sym (told c.in-Passed.is c.file_ruling-ruling.ensures) in
-    c.record_at.ensures ∙ sym (place_here _ _ passes (omega (arith, c.count_of-nodes.ensures, c.if-nodes-v.false)))
+pub returns-else-count-v : goal.returns-else-count-v
+returns-else-count-v c =
+    let count : c.count.result ≡ count_of c.args.file.now = rw c.of-file.ensures at c.count.ensures in
+    c.record_at.ensures ∙ ap (λ s. record_at s c.args.v) c.of-file.ensures ∙ sym (place_here _ _ (sym c.in-Ok.ensures) (omega arith))
 
-pub returns-in-Broken : goal.returns-in-Broken
-returns-in-Broken c = sym (place_refused_lem _ _ (sym (told c.in-Broken.is c.file_ruling-ruling.ensures)))
+pub returns-in-Err : goal.returns-in-Err
+returns-in-Err c = sym (place_refused_lem _ _ (sym c.in-Err.ensures))

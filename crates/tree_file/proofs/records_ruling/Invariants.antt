@@ -1,5 +1,4 @@
 -- `records_ruling`: each of the first n records through its rules before the next.
-use Prim.Native.Nat.{◌-◌}
 use Rattle.model.specs.File.{tree_of}
 use Rattle.tree_file.specs.Checks.{DepthsTo}
 use Rattle.tree_file.proofs.Records.{Passing}
@@ -7,6 +6,3 @@ use Rattle.tree_file.proofs.records_ruling.Given as goal
 
 abbrev pub invariant-loop-i : goal.invariant-loop-i
 invariant-loop-i l = Passing l.file l.n l.i × DepthsTo (tree_of l.file) l.depths l.i
-
-abbrev pub decreases-loop-i : goal.decreases-loop-i
-decreases-loop-i l = l.n - l.i

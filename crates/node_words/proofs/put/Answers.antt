@@ -1,5 +1,0 @@
--- `put` keeps its contract.
-use Rattle.node_words.proofs.put.Goals as goal
-
-pub returns : goal.returns
-returns c = cc

@@ -1,5 +1,0 @@
--- `put_pair`: stores words `f` and `f + 1` of node `v`.
-use Rattle.node_words.proofs.put_pair.Goals as goal
-
-pub returns : goal.returns
-returns c = cc

@@ -1,5 +1,0 @@
--- `word`: reads word `f` of node `v`.
-use Rattle.node_words.proofs.word.Goals as goal
-
-pub returns : goal.returns
-returns c = cc

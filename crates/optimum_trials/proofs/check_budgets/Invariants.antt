@@ -1,8 +1,0 @@
-use Rattle.std.proofs.Common.{◌-◌, ◌+◌, ◌≤◌}
-use Rattle.optimum_trials.proofs.check_budgets.Given as goal
-
-abbrev pub invariant-loop-b : goal.invariant-loop-b
-invariant-loop-b g l = l.b ≤ l.k + 1
-
-abbrev pub decreases-loop-b : goal.decreases-loop-b
-decreases-loop-b g l = l.k + 1 - l.b

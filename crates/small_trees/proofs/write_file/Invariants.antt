@@ -1,8 +1,0 @@
-use Rattle.std.proofs.Common.{length, ◌-◌, ◌≤◌}
-use Rattle.small_trees.proofs.write_file.Given as goal
-
-abbrev pub invariant-loop-end : goal.invariant-loop-end
-invariant-loop-end l = l.end ≤ length l.out
-
-abbrev pub decreases-loop-end : goal.decreases-loop-end
-decreases-loop-end l = l.size - l.end
