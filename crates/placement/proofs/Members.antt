@@ -1,76 +1,43 @@
 -- Laws of loops over a set: rule 12 from its front, first that it ascends and then that it is open, and the members that are left as the node number goes up.
-use mathlib.Core.Path.{◌≡◌, refl, sym, ◌∙◌, ap}
-use mathlib.Core.Bool.{Bool, true, false, cond, ◌&&◌, and-true, or-false}
+use mathlib.Core.Path.{◌≡◌, refl, sym, ◌∙◌}
+use mathlib.Core.Bool.{Bool, true, false, cond, or-false}
 use mathlib.Core.List.{List, [], ◌∷◌}
 use Prim.Native.Nat.{ℕ, zero, suc, ◌+◌, ◌≤◌, ◌<◌}
+use native.Mathlib.Numerals.{add-one}
 use native.Mathlib.Decide.{dec_lt, ℕ_discrete}
 use native.Mathlib.Omega.{arith}
-use lib.Dec.{eqb, leb, ltb}
+use lib.Dec.{eqb}
 use lib.ListN.{length, get_or, drop}
-use borrow.Author.Tests.{lt-ltb, le-leb, lt-leb, leb-true, eq-eqb, ne_eqb}
-use Rattle.std.specs.Iterator.{AlwaysYields}
-use Rattle.std.specs.Slice.Iter.{windows_rest, windows_size, windows_steps}
+use lib.Seq.{drop-cons, drop-nil}
+use borrow.Author.Tests.{lt-ltb, le-leb, lt-leb, eq-eqb, ne_eqb}
 use Rattle.std.specs.List.{list_all}
-use Rattle.std.proofs.lemmas.Iterator.{YieldsList}
 use Rattle.laws.specs.Lists.{has, all_of, those}
-use Rattle.laws.proofs.Bools.{by_test, both}
+use Rattle.laws.proofs.Bools.{by_test}
 use Rattle.model.specs.Rules.{ascends}
 use Rattle.model.proofs.Ascending.{ascends_cons, ascends_bounds}
 use Rattle.placement.specs.Passes.{members_from}
 
--- ---- rule 12: each member from 1 to n − 1, and each below the next
+-- ---- rule 12: the first i members ascend, the last of them is a
 
--- the pairs of neighbours
-pub pairs : List ℕ → List (List ℕ)
-pairs [] = []
-pairs (x ∷ []) = []
-pairs (x ∷ y ∷ k) = (x ∷ y ∷ []) ∷ pairs (y ∷ k)
+past_end : (k : List ℕ) (i : ℕ) → length k ≤ i → drop i k ≡ []
+past_end [] i h = drop-nil i
+past_end (x ∷ k) zero h = absurd (omega arith)
+past_end (x ∷ k) (suc i) h = past_end k i (omega arith)
 
--- `windows(2)` gives them
-pairs_run : (k : List ℕ) (s : _) → windows_rest s ≡ k → windows_size s ≡ 2 → AlwaysYields windows_steps (λ w. w.now) s (pairs k)
-unfolding pairs
-pairs_run [] s r n = λ w j p. omega (arith, p.1.0, ap length r)
-pairs_run (x ∷ []) s r n = λ w j p. omega (arith, p.1.0, ap length r)
-pairs_run (x ∷ y ∷ k) s r n = (
-  λ j p. omega (arith, p.1.0, ap length r),
-  λ w j p. (p.1.1 ∙ rw (n, r) refl, pairs_run (y ∷ k) j (p.1.2 ∙ rw r refl) (p.0 ∙ n)),
-)
+module _ (n : ℕ) (k : List ℕ) (a i : ℕ) (so_far : ascends 0 n k ≡ ascends a n (drop i k)) where
+  pub set_goes_on : i < length k → a < get_or k i 0 → get_or k i 0 < n → ascends 0 n k ≡ ascends (get_or k i 0) n (drop (i + 1) k)
+  unfolding ascends
+  set_goes_on h low high = so_far ∙ rw (drop-cons k i 0 h, lt-ltb a (get_or k i 0) low, lt-ltb (get_or k i 0) n high, add-one i)
 
-pub pairs_given : (k : List ℕ) {s : _} → windows_rest s ≡ k → windows_size s ≡ 2 → YieldsList windows_steps (λ w. w.now) s (pairs k)
-pairs_given k {s} r n = record { runs = pairs_run k s r n }
+  pub set_breaks : i < length k → (a < get_or k i 0 → get_or k i 0 < n → ⊥) → ascends 0 n k ≡ false
+  set_breaks h bad =
+      by_test (λ b. b ≡ false) (ascends 0 n k)
+      (λ e. let parts = (ascends_cons n a (get_or k i 0) (drop (suc i) k)).0 (rw (← drop-cons k i 0 h) (sym so_far ∙ e)) in absurd (bad parts.0 parts.1))
+      (λ _. refl)
 
-abbrev pub rises : List ℕ → Bool
-rises w = ltb (get_or w 0 0) (get_or w 1 0)
-
-module _ (n : ℕ) where
-  abbrev pub within : ℕ → Bool
-  within v = leb 1 v && ltb v n
-
-  rise_after : (x : ℕ) (k : List ℕ) → list_all within k ≡ true → list_all rises (pairs (x ∷ k)) ≡ ascends x n k
-  unfolding ascends pairs
-  rise_after x [] h = refl
-  rise_after x (y ∷ k) h =
-      let parts = both (within y) (list_all within k) h in
-      rw ((both (leb 1 y) (ltb y n) parts.0).1, and-true (ltb x y), rise_after y k parts.1) refl
-
-  -- where each is from 1 to n − 1, the pairs tell
-  pub pairs_tell : (k : List ℕ) → list_all within k ≡ true → list_all rises (pairs k) ≡ ascends 0 n k
-  unfolding ascends pairs
-  pairs_tell [] h = refl
-  pairs_tell (y ∷ k) h =
-      let parts = both (within y) (list_all within k) h in
-      let bounds = both (leb 1 y) (ltb y n) parts.0 in
-      rw (bounds.1, lt-ltb 0 y (omega (arith, leb-true 1 y bounds.0))) (rise_after y k parts.1)
-
-  bounds_kept : (a : ℕ) (k : List ℕ) → ascends a n k ≡ true → list_all within k ≡ true
-  bounds_kept a [] h = refl
-  bounds_kept a (y ∷ k) h =
-      let parts = (ascends_cons n a y k).0 h in
-      rw (le-leb 1 y (omega (arith, parts.0)), lt-ltb y n parts.1) (bounds_kept y k parts.2)
-
-  pub out_of_bounds : (k : List ℕ) → list_all within k ≡ false → ascends 0 n k ≡ false
-  out_of_bounds k h =
-      by_test (λ b. b ≡ false) (ascends 0 n k) (λ e. sym (bounds_kept 0 k e) ∙ h) (λ _. refl)
+  pub set_ends : length k ≤ i → ascends 0 n k ≡ true
+  unfolding ascends
+  set_ends h = so_far ∙ rw (past_end k i h)
 
 -- each member is open
 pub all_asked : (p : ℕ → Bool) (k : List ℕ) → list_all p k ≡ all_of p k

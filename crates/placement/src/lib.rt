@@ -27,12 +27,23 @@ struct Walk {
 
 // ---- members of a set
 
-// Do the members ascend, each from 1 to n − 1?
+// Do the members ascend, each from 1 to n − 1? It ends at the first that does not, so that no set takes more than n turns, however
+// long it is.
 fn ascending(set: &[u16], n: usize) -> bool
     ensures { result ≡ ascends 0 n set.now }
 {
-    set.iter().all(|v| 1 <= *v && usize::from(*v) < n)
-        && set.windows(2).all(|pair| pair[0] < pair[1])
+    let mut last = 0;
+    for member in set {
+        let v = usize::from(*member);
+        if v <= last {
+            return false;
+        }
+        if n <= v {
+            return false;
+        }
+        last = v;
+    }
+    true
 }
 
 // Rule 12.

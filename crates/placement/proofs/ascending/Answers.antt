@@ -1,18 +1,29 @@
 -- `ascending`: do the members ascend, each from 1 to n − 1?
-use mathlib.Core.Path.{sym, ◌∙◌}
-use Rattle.std.proofs.Common.{rules, tests}
-use Rattle.std.proofs.lemmas.Iterator.{YieldsList-from_slice}
-use Rattle.std.proofs.lemmas.Iterator.Search.{all_from_yields_List}
-use Rattle.placement.proofs.Members.{pairs_given, pairs_tell, out_of_bounds, rises, within}
+use mathlib.Core.Path.{sym}
+use native.Mathlib.Omega.{arith}
+use Rattle.placement.proofs.Members.{set_goes_on, set_breaks, set_ends}
 use Rattle.placement.proofs.ascending.Goals as goal
 
-pub returns-then-all : goal.returns-then-all
-returns-then-all c =
-    let bounds = all_from_yields_List (within c.args.n) _ _ c.all.result c.all.ensures.ran (YieldsList-from_slice c.args.set.now cc) (λ x b q k. search (rules, tests)) in
-    let pairs = all_from_yields_List rises _ _ c.all-then-all.result c.all-then-all.ensures.ran (pairs_given c.args.set.now c.windows.ensures.rest c.windows.ensures.size) (λ x b q k. search (rules, tests)) in
-    pairs ∙ pairs_tell c.args.n c.args.set.now (sym bounds ∙ c.if-all.true)
+pub returns-then-v-last : goal.returns-then-v-last
+returns-then-v-last c =
+    sym (set_breaks _ _ _ _ c.loop-member.invariant c.loop-member-test.true (λ low high. omega (arith, low, c.from-v.ensures, c.if-v-last.true)))
 
-pub returns-else-all : goal.returns-else-all
-returns-else-all c =
-    let bounds = all_from_yields_List (within c.args.n) _ _ c.all.result c.all.ensures.ran (YieldsList-from_slice c.args.set.now cc) (λ x b q k. search (rules, tests)) in
-    c.if-all.false ∙ sym (out_of_bounds c.args.n c.args.set.now (sym bounds ∙ c.if-all.false))
+pub returns-then-n-v : goal.returns-then-n-v
+returns-then-n-v c =
+    sym (set_breaks _ _ _ _ c.loop-member.invariant c.loop-member-test.true (λ low high. omega (arith, high, c.from-v.ensures, c.if-n-v.true)))
+
+pub loop-member-preserved : goal.loop-member-preserved
+loop-member-preserved c =
+    rw c.from-v.ensures
+    (set_goes_on
+    _
+    _
+    _
+    _
+    c.loop-member.invariant
+    c.loop-member-test.true
+    (omega (arith, c.from-v.ensures, c.if-v-last.false))
+    (omega (arith, c.from-v.ensures, c.if-n-v.false)))
+
+pub returns : goal.returns
+returns c = sym (set_ends _ c.args.set.now _ c.loop-member.member-index c.loop-member.invariant (omega (arith, c.loop-member-test.false)))
