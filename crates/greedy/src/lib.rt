@@ -99,6 +99,7 @@ fn gather(file: &TreeFile, n: usize, words: &mut [u64])
 }
 
 // Stores the words of each node where no node is taken.
+#[inline(always)]
 fn prepare(file: &TreeFile, n: usize, words: &mut [u64])
     requires { NodeRoom file.now n words.old }
     ensures { Prepared file.now n words.old words.new }
@@ -130,11 +131,13 @@ fn search(file: &TreeFile, n: usize, words: &[u64]) -> Option<Found>
 {
     // no `max_by_key`: of equals it keeps the last, and here the first is asked for
     let mut found: Option<Found> = None;
+    // what it saves, kept beside it
+    let mut most = Total::ZERO;
     for v in 1..n {
         let saving = saving_of(words, v);
-        let most = found.map_or(Total::ZERO, |best| best.saving);
         if most.0 < saving.0 && file.is_open(v) {
             found = Some(Found { site: v, saving });
+            most = saving;
         }
     }
     found
@@ -207,6 +210,7 @@ fn rest(b: usize, k: usize, total: Total, totals: &mut [u64], nodes: &mut [u16])
 }
 
 // Each of k steps takes the open node that saves most. If none saves, none will in a later step.
+#[inline(always)]
 fn take_sites(
     file: &TreeFile,
     n: usize,
@@ -234,6 +238,7 @@ fn take_sites(
 }
 
 // The greedy rule on an accepted file: k + 1 totals, and the nodes in the order taken, then zeros.
+#[inline(always)]
 pub fn run(
     file: &TreeFile,
     n: usize,
