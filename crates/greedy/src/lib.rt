@@ -237,7 +237,8 @@ fn take_sites(
     }
 }
 
-// The greedy rule on an accepted file: k + 1 totals, and the nodes in the order taken, then zeros.
+// The greedy rule on an accepted file: k + 1 totals, and the nodes in the order taken, then zeros. It and the two functions that it
+// calls are inlined, so that what they read of the file is kept across what they store.
 #[inline(always)]
 pub fn run(
     file: &TreeFile,
