@@ -9,7 +9,7 @@ use fields::Tree;
 use std::io;
 use std::io::Write;
 use tree_file::Refusal;
-use trial_text::Case;
+use trial_text::{Case, FILE_ROOM};
 
 fn print_accepted<W: Write>(out: &mut W, tree: Tree) -> io::Result<()> {
     write!(
@@ -27,15 +27,17 @@ fn print_checked<W: Write>(out: &mut W, checked: Result<Tree, Refusal>) -> io::R
 }
 
 fn check_case<W: Write>(out: &mut W, case: Case<'_>) -> io::Result<()> {
-    let file = case.file(2)?;
-    print_checked(out, tree_file::check(&file))?;
-    write!(out, " host {}", tree_file::kterc_check(&file))
+    let mut file = [0u8; FILE_ROOM];
+    let file = case.file(2, &mut file);
+    print_checked(out, tree_file::check(file))?;
+    write!(out, " host {}", tree_file::kterc_check(file))
 }
 
 fn record_case<W: Write>(out: &mut W, case: Case<'_>) -> io::Result<()> {
     out.write_all(b" record")?;
-    let file = case.file(3)?;
-    let record = tree_file::record_of(&file, case.number(2) as usize);
+    let mut file = [0u8; FILE_ROOM];
+    let file = case.file(3, &mut file);
+    let record = tree_file::record_of(file, case.number(2) as usize);
     if record.is_empty() {
         return out.write_all(b" none");
     }

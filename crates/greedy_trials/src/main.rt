@@ -7,22 +7,23 @@
 
 use std::io;
 use std::io::Write;
-use trial_text::Case;
+use trial_text::{Case, FILE_ROOM, SCRATCH_ROOM};
 
 fn answer<W: Write>(out: &mut W, case: Case<'_>) -> io::Result<()> {
     trial_text::print_name(out, case)?;
-    let mut scratch = case.lent(1, trial_text::SCRATCH_ROOM, 9u64)?;
-    let beyond = case.number_within(2, trial_text::SCRATCH_ROOM);
-    let mut totals = case.lent(3, 64, 9u64)?;
-    let mut taken = case.lent(4, 64, 9u16)?;
-    let file = case.file(5)?;
-    trial_text::print_ruling(
-        out,
-        greedy::greedy(&file, &mut scratch, &mut totals, &mut taken),
-    )?;
-    trial_text::print_numbers(out, b" totals", &totals)?;
-    trial_text::print_numbers(out, b" taken", &taken)?;
-    trial_text::print_kept(out, &scratch, beyond, 9)?;
+    let mut scratch = [9u64; SCRATCH_ROOM];
+    let scratch = case.lent(1, &mut scratch);
+    let beyond = case.number_within(2, SCRATCH_ROOM);
+    let mut totals = [9u64; 64];
+    let totals = case.lent(3, &mut totals);
+    let mut taken = [9u16; 64];
+    let taken = case.lent(4, &mut taken);
+    let mut file = [0u8; FILE_ROOM];
+    let file = case.file(5, &mut file);
+    trial_text::print_ruling(out, greedy::greedy(file, scratch, totals, taken))?;
+    trial_text::print_numbers(out, b" totals", totals)?;
+    trial_text::print_numbers(out, b" taken", taken)?;
+    trial_text::print_kept(out, scratch, beyond, 9)?;
     trial_text::end_line(out)
 }
 

@@ -13,96 +13,111 @@
 
 use std::io;
 use std::io::Write;
-use trial_text::Case;
+use trial_text::{Case, FILE_ROOM, SCRATCH_WORD};
 
 // The most words of the scratch.
 const WORDS: usize = 9000;
 
 fn rank_case<W: Write>(out: &mut W, case: Case<'_>, file: &[u8]) -> io::Result<()> {
-    let first = case.numbers(3, 1100)?;
-    let second = case.numbers(4, 1100)?;
-    trial_text::print_number(out, kterc_c::kterc_rank(file, &first, &second))
+    let mut first = [0u16; 1100];
+    let first = case.numbers(3, &mut first);
+    let mut second = [0u16; 1100];
+    let second = case.numbers(4, &mut second);
+    trial_text::print_number(out, kterc_c::kterc_rank(file, first, second))
 }
 
 fn bill_case<W: Write>(out: &mut W, case: Case<'_>, file: &[u8]) -> io::Result<()> {
-    let set = case.numbers(3, 1100)?;
-    let mut total = case.lent(4, 40, 987654321u64)?;
-    let mut serving = case.lent(5, 1100, 4321u16)?;
-    let mut loads = case.lent(6, 1100, 123456789u64)?;
-    let code = kterc_c::kterc_bill(file, &set, &mut total, &mut serving, &mut loads);
+    let mut set = [0u16; 1100];
+    let set = case.numbers(3, &mut set);
+    let mut total = [987654321u64; 40];
+    let total = case.lent(4, &mut total);
+    let mut serving = [4321u16; 1100];
+    let serving = case.lent(5, &mut serving);
+    let mut loads = [123456789u64; 1100];
+    let loads = case.lent(6, &mut loads);
+    let code = kterc_c::kterc_bill(file, set, total, serving, loads);
     trial_text::print_number(out, code)?;
-    trial_text::print_numbers(out, b" total", &total)?;
-    trial_text::print_numbers(out, b" serving", &serving)?;
-    trial_text::print_numbers(out, b" loads", &loads)
+    trial_text::print_numbers(out, b" total", total)?;
+    trial_text::print_numbers(out, b" serving", serving)?;
+    trial_text::print_numbers(out, b" loads", loads)
 }
 
 fn plan_case<W: Write>(out: &mut W, case: Case<'_>, file: &[u8]) -> io::Result<()> {
-    let mut scratch = case.lent(3, WORDS, trial_text::SCRATCH_WORD)?;
+    let mut scratch = [SCRATCH_WORD; WORDS];
+    let scratch = case.lent(3, &mut scratch);
     let beyond = case.number_within(4, WORDS);
-    let mut totals = case.lent(5, 40, 987654321u64)?;
-    let mut rows = case.lent(6, 1100, 4321u16)?;
-    let code = kterc_c::kterc_plan(file, &mut scratch, &mut totals, &mut rows);
+    let mut totals = [987654321u64; 40];
+    let totals = case.lent(5, &mut totals);
+    let mut rows = [4321u16; 1100];
+    let rows = case.lent(6, &mut rows);
+    let code = kterc_c::kterc_plan(file, scratch, totals, rows);
     trial_text::print_number(out, code)?;
-    trial_text::print_plan(out, &totals, &rows)?;
-    trial_text::print_kept(out, &scratch, beyond, trial_text::SCRATCH_WORD)
+    trial_text::print_plan(out, totals, rows)?;
+    trial_text::print_kept(out, scratch, beyond, SCRATCH_WORD)
 }
 
 fn greedy_case<W: Write>(out: &mut W, case: Case<'_>, file: &[u8]) -> io::Result<()> {
-    let mut scratch = case.lent(3, WORDS, trial_text::SCRATCH_WORD)?;
+    let mut scratch = [SCRATCH_WORD; WORDS];
+    let scratch = case.lent(3, &mut scratch);
     let beyond = case.number_within(4, WORDS);
-    let mut totals = case.lent(5, 40, 987654321u64)?;
-    let mut greedy_nodes = case.lent(6, 40, 1234u16)?;
-    let code = kterc_c::kterc_greedy(file, &mut scratch, &mut totals, &mut greedy_nodes);
+    let mut totals = [987654321u64; 40];
+    let totals = case.lent(5, &mut totals);
+    let mut greedy_nodes = [1234u16; 40];
+    let greedy_nodes = case.lent(6, &mut greedy_nodes);
+    let code = kterc_c::kterc_greedy(file, scratch, totals, greedy_nodes);
     trial_text::print_number(out, code)?;
-    trial_text::print_numbers(out, b" totals", &totals)?;
-    trial_text::print_numbers(out, b" greedy_nodes", &greedy_nodes)?;
-    trial_text::print_kept(out, &scratch, beyond, trial_text::SCRATCH_WORD)
+    trial_text::print_numbers(out, b" totals", totals)?;
+    trial_text::print_numbers(out, b" greedy_nodes", greedy_nodes)?;
+    trial_text::print_kept(out, scratch, beyond, SCRATCH_WORD)
 }
 
 fn report_case<W: Write>(out: &mut W, case: Case<'_>, file: &[u8]) -> io::Result<()> {
-    let mut scratch = case.lent(3, WORDS, trial_text::SCRATCH_WORD)?;
+    let mut scratch = [SCRATCH_WORD; WORDS];
+    let scratch = case.lent(3, &mut scratch);
     let beyond = case.number_within(4, WORDS);
-    let mut totals = case.lent(5, 40, 987654321u64)?;
-    let mut rows = case.lent(6, 1100, 4321u16)?;
-    let mut greedy_totals = case.lent(7, 40, 123456789u64)?;
-    let mut greedy_nodes = case.lent(8, 40, 1234u16)?;
-    let code = kterc_c::kterc_report(
-        file,
-        &mut scratch,
-        &mut totals,
-        &mut rows,
-        &mut greedy_totals,
-        &mut greedy_nodes,
-    );
+    let mut totals = [987654321u64; 40];
+    let totals = case.lent(5, &mut totals);
+    let mut rows = [4321u16; 1100];
+    let rows = case.lent(6, &mut rows);
+    let mut greedy_totals = [123456789u64; 40];
+    let greedy_totals = case.lent(7, &mut greedy_totals);
+    let mut greedy_nodes = [1234u16; 40];
+    let greedy_nodes = case.lent(8, &mut greedy_nodes);
+    let code = kterc_c::kterc_report(file, scratch, totals, rows, greedy_totals, greedy_nodes);
     trial_text::print_number(out, code)?;
-    trial_text::print_plan(out, &totals, &rows)?;
-    trial_text::print_numbers(out, b" greedy_totals", &greedy_totals)?;
-    trial_text::print_numbers(out, b" greedy_nodes", &greedy_nodes)?;
-    trial_text::print_kept(out, &scratch, beyond, trial_text::SCRATCH_WORD)
+    trial_text::print_plan(out, totals, rows)?;
+    trial_text::print_numbers(out, b" greedy_totals", greedy_totals)?;
+    trial_text::print_numbers(out, b" greedy_nodes", greedy_nodes)?;
+    trial_text::print_kept(out, scratch, beyond, SCRATCH_WORD)
 }
 
 fn with_without_case<W: Write>(out: &mut W, case: Case<'_>, file: &[u8]) -> io::Result<()> {
     let node = case.number(3) as usize;
     let budget = case.number(4) as usize;
-    let mut scratch = case.lent(5, WORDS, trial_text::SCRATCH_WORD)?;
+    let mut scratch = [SCRATCH_WORD; WORDS];
+    let scratch = case.lent(5, &mut scratch);
     let beyond = case.number_within(6, WORDS);
-    let mut totals = case.lent(7, 40, 987654321u64)?;
-    let code = kterc_c::kterc_with_without(file, node, budget, &mut scratch, &mut totals);
+    let mut totals = [987654321u64; 40];
+    let totals = case.lent(7, &mut totals);
+    let code = kterc_c::kterc_with_without(file, node, budget, scratch, totals);
     trial_text::print_number(out, code)?;
-    trial_text::print_numbers(out, b" totals", &totals)?;
-    trial_text::print_kept(out, &scratch, beyond, trial_text::SCRATCH_WORD)
+    trial_text::print_numbers(out, b" totals", totals)?;
+    trial_text::print_kept(out, scratch, beyond, SCRATCH_WORD)
 }
 
 fn target_case<W: Write>(out: &mut W, case: Case<'_>, file: &[u8]) -> io::Result<()> {
-    let mut scratch = case.lent(4, WORDS, trial_text::SCRATCH_WORD)?;
+    let mut scratch = [SCRATCH_WORD; WORDS];
+    let scratch = case.lent(4, &mut scratch);
     let beyond = case.number_within(5, WORDS);
-    let mut budget = case.lent(6, 40, 1234u16)?;
-    let mut row = case.lent(7, 40, 4321u16)?;
-    let code = kterc_c::kterc_target(file, case.number(3), &mut scratch, &mut budget, &mut row);
+    let mut budget = [1234u16; 40];
+    let budget = case.lent(6, &mut budget);
+    let mut row = [4321u16; 40];
+    let row = case.lent(7, &mut row);
+    let code = kterc_c::kterc_target(file, case.number(3), scratch, budget, row);
     trial_text::print_number(out, code)?;
-    trial_text::print_numbers(out, b" budget", &budget)?;
-    trial_text::print_numbers(out, b" row", &row)?;
-    trial_text::print_kept(out, &scratch, beyond, trial_text::SCRATCH_WORD)
+    trial_text::print_numbers(out, b" budget", budget)?;
+    trial_text::print_numbers(out, b" row", row)?;
+    trial_text::print_kept(out, scratch, beyond, SCRATCH_WORD)
 }
 
 fn answer_call<W: Write>(out: &mut W, case: Case<'_>, file: &[u8]) -> io::Result<()> {
@@ -126,8 +141,9 @@ fn answer_call<W: Write>(out: &mut W, case: Case<'_>, file: &[u8]) -> io::Result
 
 fn answer<W: Write>(out: &mut W, case: Case<'_>) -> io::Result<()> {
     trial_text::print_name(out, case)?;
-    let file = case.file(2)?;
-    answer_call(out, case, &file)?;
+    let mut file = [0u8; FILE_ROOM];
+    let file = case.file(2, &mut file);
+    answer_call(out, case, file)?;
     trial_text::end_line(out)
 }
 

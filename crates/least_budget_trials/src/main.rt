@@ -10,7 +10,7 @@
 use std::io;
 use std::io::Write;
 use tree_file::Refusal;
-use trial_text::Case;
+use trial_text::{Case, FILE_ROOM, SCRATCH_ROOM, SCRATCH_WORD};
 use units::Total;
 
 fn print_answer<W: Write>(out: &mut W, answer: Result<Option<u16>, Refusal>) -> io::Result<()> {
@@ -24,16 +24,16 @@ fn print_answer<W: Write>(out: &mut W, answer: Result<Option<u16>, Refusal>) -> 
 fn answer<W: Write>(out: &mut W, case: Case<'_>) -> io::Result<()> {
     trial_text::print_name(out, case)?;
     let target = Total(case.number(1));
-    let mut scratch = case.lent(2, trial_text::SCRATCH_ROOM, trial_text::SCRATCH_WORD)?;
-    let beyond = case.number_within(3, trial_text::SCRATCH_ROOM);
-    let mut row = case.lent(4, 40, 4321u16)?;
-    let file = case.file(5)?;
-    print_answer(
-        out,
-        least_budget::from_target(&file, target, &mut scratch, &mut row),
-    )?;
-    trial_text::print_numbers(out, b" row", &row)?;
-    trial_text::print_kept(out, &scratch, beyond, trial_text::SCRATCH_WORD)?;
+    let mut scratch = [SCRATCH_WORD; SCRATCH_ROOM];
+    let scratch = case.lent(2, &mut scratch);
+    let beyond = case.number_within(3, SCRATCH_ROOM);
+    let mut row = [4321u16; 40];
+    let row = case.lent(4, &mut row);
+    let mut file = [0u8; FILE_ROOM];
+    let file = case.file(5, &mut file);
+    print_answer(out, least_budget::from_target(file, target, scratch, row))?;
+    trial_text::print_numbers(out, b" row", row)?;
+    trial_text::print_kept(out, scratch, beyond, SCRATCH_WORD)?;
     trial_text::end_line(out)
 }
 

@@ -9,7 +9,7 @@ use one_site::Leasts;
 use std::io;
 use std::io::Write;
 use tree_file::Refusal;
-use trial_text::Case;
+use trial_text::{Case, FILE_ROOM, SCRATCH_ROOM, SCRATCH_WORD};
 
 fn print_answer<W: Write>(out: &mut W, answer: Result<Leasts, Refusal>) -> io::Result<()> {
     match answer {
@@ -28,14 +28,13 @@ fn answer<W: Write>(out: &mut W, case: Case<'_>) -> io::Result<()> {
     trial_text::print_name(out, case)?;
     let node = case.number(1) as usize;
     let budget = case.number(2) as usize;
-    let mut scratch = case.lent(3, trial_text::SCRATCH_ROOM, trial_text::SCRATCH_WORD)?;
-    let beyond = case.number_within(4, trial_text::SCRATCH_ROOM);
-    let file = case.file(5)?;
-    print_answer(
-        out,
-        one_site::with_or_without(&file, node, budget, &mut scratch),
-    )?;
-    trial_text::print_kept(out, &scratch, beyond, trial_text::SCRATCH_WORD)?;
+    let mut scratch = [SCRATCH_WORD; SCRATCH_ROOM];
+    let scratch = case.lent(3, &mut scratch);
+    let beyond = case.number_within(4, SCRATCH_ROOM);
+    let mut file = [0u8; FILE_ROOM];
+    let file = case.file(5, &mut file);
+    print_answer(out, one_site::with_or_without(file, node, budget, scratch))?;
+    trial_text::print_kept(out, scratch, beyond, SCRATCH_WORD)?;
     trial_text::end_line(out)
 }
 

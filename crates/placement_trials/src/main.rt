@@ -10,7 +10,7 @@ use compare::Ranking;
 use std::io;
 use std::io::Write;
 use tree_file::Refusal;
-use trial_text::Case;
+use trial_text::{Case, FILE_ROOM};
 use units::Total;
 
 // The most numbers of a set, and the most entries of a buffer.
@@ -32,21 +32,28 @@ fn print_ranking<W: Write>(out: &mut W, ranking: Result<Ranking, Refusal>) -> io
 }
 
 fn bill_case<W: Write>(out: &mut W, case: Case<'_>) -> io::Result<()> {
-    let set = case.numbers(2, MOST)?;
-    let mut servings = case.lent(3, MOST, 4321u16)?;
-    let mut loads = case.lent(4, MOST, 987654321u64)?;
-    let file = case.file(5)?;
-    print_bill(out, placement::bill(&file, &set, &mut servings, &mut loads))?;
-    trial_text::print_numbers(out, b" servings", &servings)?;
-    trial_text::print_numbers(out, b" loads", &loads)
+    let mut set = [0u16; MOST];
+    let set = case.numbers(2, &mut set);
+    let mut servings = [4321u16; MOST];
+    let servings = case.lent(3, &mut servings);
+    let mut loads = [987654321u64; MOST];
+    let loads = case.lent(4, &mut loads);
+    let mut file = [0u8; FILE_ROOM];
+    let file = case.file(5, &mut file);
+    print_bill(out, placement::bill(file, set, servings, loads))?;
+    trial_text::print_numbers(out, b" servings", servings)?;
+    trial_text::print_numbers(out, b" loads", loads)
 }
 
 fn rank_case<W: Write>(out: &mut W, case: Case<'_>) -> io::Result<()> {
-    let first = case.numbers(2, MOST)?;
-    let second = case.numbers(3, MOST)?;
-    let file = case.file(4)?;
-    print_ranking(out, compare::rank(&file, &first, &second))?;
-    trial_text::print_numbers(out, b" winner", compare::winner(&file, &first, &second))
+    let mut first = [0u16; MOST];
+    let first = case.numbers(2, &mut first);
+    let mut second = [0u16; MOST];
+    let second = case.numbers(3, &mut second);
+    let mut file = [0u8; FILE_ROOM];
+    let file = case.file(4, &mut file);
+    print_ranking(out, compare::rank(file, first, second))?;
+    trial_text::print_numbers(out, b" winner", compare::winner(file, first, second))
 }
 
 fn answer<W: Write>(out: &mut W, case: Case<'_>) -> io::Result<()> {

@@ -8,30 +8,29 @@
 
 use std::io;
 use std::io::Write;
-use trial_text::Case;
+use trial_text::{Case, FILE_ROOM, SCRATCH_ROOM, SCRATCH_WORD};
 
 fn answer<W: Write>(out: &mut W, case: Case<'_>) -> io::Result<()> {
     trial_text::print_name(out, case)?;
-    let mut scratch = case.lent(1, trial_text::SCRATCH_ROOM, trial_text::SCRATCH_WORD)?;
-    let beyond = case.number_within(2, trial_text::SCRATCH_ROOM);
-    let mut totals = case.lent(3, 40, 987654321u64)?;
-    let mut rows = case.lent(4, 1100, 4321u16)?;
-    let mut greedy_totals = case.lent(5, 40, 123456789u64)?;
-    let mut greedy_nodes = case.lent(6, 40, 1234u16)?;
-    let file = case.file(7)?;
-    let ruling = report::report(
-        &file,
-        &mut scratch,
-        &mut totals,
-        &mut rows,
-        &mut greedy_totals,
-        &mut greedy_nodes,
-    );
+    let mut scratch = [SCRATCH_WORD; SCRATCH_ROOM];
+    let scratch = case.lent(1, &mut scratch);
+    let beyond = case.number_within(2, SCRATCH_ROOM);
+    let mut totals = [987654321u64; 40];
+    let totals = case.lent(3, &mut totals);
+    let mut rows = [4321u16; 1100];
+    let rows = case.lent(4, &mut rows);
+    let mut greedy_totals = [123456789u64; 40];
+    let greedy_totals = case.lent(5, &mut greedy_totals);
+    let mut greedy_nodes = [1234u16; 40];
+    let greedy_nodes = case.lent(6, &mut greedy_nodes);
+    let mut file = [0u8; FILE_ROOM];
+    let file = case.file(7, &mut file);
+    let ruling = report::report(file, scratch, totals, rows, greedy_totals, greedy_nodes);
     trial_text::print_ruling(out, ruling)?;
-    trial_text::print_plan(out, &totals, &rows)?;
-    trial_text::print_numbers(out, b" greedy_totals", &greedy_totals)?;
-    trial_text::print_numbers(out, b" greedy_nodes", &greedy_nodes)?;
-    trial_text::print_kept(out, &scratch, beyond, trial_text::SCRATCH_WORD)?;
+    trial_text::print_plan(out, totals, rows)?;
+    trial_text::print_numbers(out, b" greedy_totals", greedy_totals)?;
+    trial_text::print_numbers(out, b" greedy_nodes", greedy_nodes)?;
+    trial_text::print_kept(out, scratch, beyond, SCRATCH_WORD)?;
     trial_text::end_line(out)
 }
 

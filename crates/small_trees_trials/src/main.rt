@@ -10,7 +10,7 @@ use small_plans::Bill;
 use small_trees::{Nodes, SmallTree};
 use std::io;
 use std::io::Write;
-use trial_text::Case;
+use trial_text::{Case, FILE_ROOM};
 
 fn print_file<W: Write>(out: &mut W, tree: &SmallTree) -> io::Result<()> {
     let mut space = [0u8; 87];
@@ -126,19 +126,16 @@ fn answer<W: Write>(out: &mut W, tree: &SmallTree, mask: u64) -> io::Result<()> 
     print_minima(out, tree)
 }
 
-fn tree_of(case: Case<'_>) -> io::Result<SmallTree> {
+fn tree_of(case: Case<'_>) -> SmallTree {
     match case.word(1) {
-        b"nth" => Ok(tree_sequence::nth_tree(case.number(2))),
-        _ => {
-            let file = case.file(2)?;
-            Ok(SmallTree::of_file(&file))
-        }
+        b"nth" => tree_sequence::nth_tree(case.number(2)),
+        _ => SmallTree::of_file(case.file(2, &mut [0u8; FILE_ROOM])),
     }
 }
 
 fn answer_case<W: Write>(out: &mut W, case: Case<'_>) -> io::Result<()> {
     trial_text::print_name(out, case)?;
-    answer(out, &tree_of(case)?, case.number(3))?;
+    answer(out, &tree_of(case), case.number(3))?;
     trial_text::end_line(out)
 }
 

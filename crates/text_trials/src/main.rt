@@ -4,13 +4,14 @@
 
 use std::io;
 use std::io::Write;
-use trial_text::Case;
+use trial_text::{Case, FILE_ROOM};
 
 fn answer<W: Write>(out: &mut W, case: Case<'_>) -> io::Result<()> {
     trial_text::print_name(out, case)?;
     trial_text::end_line(out)?;
-    let file = case.file(1)?;
-    out.write_all(report_text::program_text(&file).bytes())
+    let mut file = [0u8; FILE_ROOM];
+    let file = case.file(1, &mut file);
+    out.write_all(report_text::program_text(file).bytes())
 }
 
 fn main(rt: HostRuntime) -> io::Result<()> {

@@ -4,31 +4,29 @@
 // where `*N` after a piece stands for N of it.
 #![tactic(auto)]
 
-ghost use Rattle.std.specs.Prelude.{◌≤◌, IfOk, vec_len};
+ghost use Rattle.std.specs.Prelude.{◌≡◌, ◌≤◌, length, take};
 
-use std::alloc::{AllocError, AllocFailed, Global};
 use std::fmt::Display;
 use std::io;
-use std::io::{BufWriter, Printer, Read, Write};
+use std::io::{BufWriter, Printer, Write};
 use tree_file::Refusal;
 
-// The text of all cases: as many bytes of the input are read.
-const TEXT_ROOM: u64 = 393_216;
+// Room for the text of all cases: as many bytes of the input are read.
+pub const TEXT_ROOM: usize = 393_216;
 
 // Room for the file of a case: the longest that is accepted has 13,321 bytes.
-const FILE_ROOM: usize = 13_440;
+pub const FILE_ROOM: usize = 13_440;
 
-// The most words of a scratch that is lent.
+// Room for the scratch of a case, in words.
 pub const SCRATCH_ROOM: usize = 40_960;
 
 // Each word of the scratch that most programs lend, before the call.
 pub const SCRATCH_WORD: u64 = 5_432_123;
 
-// A case: the words of a line, and where what they say is held.
+// A case: the words of a line.
 #[derive(Clone, Copy)]
 pub struct Case<'a> {
     line: &'a [u8],
-    alloc: Global,
 }
 
 impl<'a> Case<'a> {
@@ -52,33 +50,35 @@ impl<'a> Case<'a> {
         self.number(k).min(most as u64) as usize
     }
 
-    // The list of numbers that word `k` says, at most `most` of them.
-    pub fn numbers(&self, k: usize, most: usize) -> Result<Vec<u16>, AllocError>
-        ensures { IfOk result (λ numbers. vec_len numbers ≤ most) }
+    // The list of numbers that word `k` says, as many as fit in the room, at its start.
+    pub fn numbers<'b>(&self, k: usize, room: &'b mut [u16]) -> &'b [u16]
+        ensures { length result.now ≤ length room.old }
     {
-        self.word(k)
-            .split_inclusive(|byte| *byte == b',')
-            .map(entry_of)
-            .take(most)
-            .collect(self.alloc)
-    }
-
-    // A buffer of as many entries as word `k` says, at most `most`, each of them this value.
-    pub fn lent<T: Copy>(&self, k: usize, most: usize, value: T) -> Result<Vec<T>, AllocError>
-        ensures { IfOk result (λ entries. vec_len entries ≤ most) }
-    {
-        vec![in self.alloc; value; self.number_within(k, most)]
-    }
-
-    // The bytes of the file that word `k` says, as many as fit.
-    pub fn file(&self, k: usize) -> Result<Vec<u8>, AllocError>
-        ensures { IfOk result (λ file. vec_len file ≤ FILE_ROOM) }
-    {
-        let mut file = Vec::new(self.alloc);
-        for piece in self.word(k).split(|byte| *byte == b'+') {
-            put_piece(&mut file, piece)?;
+        let mut end = 0;
+        for piece in self.word(k).split_inclusive(|byte| *byte == b',') {
+            end = put(room, end, entry_of(piece));
         }
-        Ok(file)
+        &room[..end]
+    }
+
+    // As many entries of the room as word `k` says, from its start, as they are: all of them if it says more.
+    pub fn lent<'b, T>(&self, k: usize, room: &'b mut [T]) -> &'b mut [T]
+        ensures within { length result.now ≤ length room.old }
+        ensures start { result.now ≡ take (length result.now) room.old }
+    {
+        let n = self.number_within(k, room.len());
+        &mut room[..n]
+    }
+
+    // The bytes of the file that word `k` says, as many as fit in the room, at its start.
+    pub fn file<'b>(&self, k: usize, room: &'b mut [u8]) -> &'b [u8]
+        ensures { length result.now ≤ length room.old }
+    {
+        let mut end = 0;
+        for piece in self.word(k).split(|byte| *byte == b'+') {
+            end = put_piece(room, end, piece);
+        }
+        &room[..end]
     }
 }
 
@@ -105,55 +105,59 @@ fn entry_of(piece: &[u8]) -> u16 {
     (number_of(piece.strip_suffix(b",").unwrap_or(piece)) % 65_536) as u16
 }
 
-// Appends a byte to a file, if there is room.
-fn put_byte(file: &mut Vec<u8>, byte: u8) -> Result<(), AllocFailed<u8>>
-    requires { vec_len file.old ≤ FILE_ROOM }
-    ensures { vec_len file.new ≤ FILE_ROOM }
+// Writes an entry at `end`, if there is room, and answers where the next one goes.
+fn put<T: Drop>(room: &mut [T], end: usize, entry: T) -> usize
+    ensures { result ≤ length room.new }
 {
-    if file.len() < FILE_ROOM {
-        file.push(byte)?;
+    if room.len() <= end {
+        return room.len();
     }
-    Ok(())
+    room[end] = entry;
+    end + 1
 }
 
-// Appends a piece of a file, as often as it says.
-fn put_piece(file: &mut Vec<u8>, piece: &[u8]) -> Result<(), AllocError>
-    requires { vec_len file.old ≤ FILE_ROOM }
-    ensures { vec_len file.new ≤ FILE_ROOM }
+// Writes a piece of a file from `end` on, as often as it says, and answers where it ends.
+fn put_piece(room: &mut [u8], end: usize, piece: &[u8]) -> usize
+    requires { end ≤ length room.old }
+    ensures { result ≤ length room.new }
 {
     let mut parts = piece.splitn(2, |byte| *byte == b'*');
     let digits = parts.next().unwrap_or_default();
     let copies = parts.next().map_or(1, number_of);
+    let mut end = end;
     for _ in 0..copies {
         for pair in digits.chunks_exact(2) {
-            put_byte(file, digit(pair[0]) * 16 + digit(pair[1]))?;
+            end = put(room, end, digit(pair[0]) * 16 + digit(pair[1]));
         }
     }
-    Ok(())
+    end
 }
 
 // ---- answers, to a writer
 
+// Answers the case of each line of a text, in order.
+fn answer_lines<W: Write, F>(out: &mut W, text: &[u8], mut answer: F) -> io::Result<()>
+where
+    F: FnMut(&mut W, Case<'_>) -> io::Result<()>,
+    requires { F.IsAlwaysCallable answer }
+{
+    for line in text.split_inclusive(|byte| *byte == b'\n') {
+        let words = line.strip_suffix(b"\n").unwrap_or(line);
+        answer(out, Case { line: words })?;
+    }
+    Ok(())
+}
+
 // Answers the case of each line of standard input, in order, on standard output.
-pub fn answer_cases<'a, R: Input + Print + AllocGlobal, F>(
-    rt: &'a R,
-    mut answer: F,
-) -> io::Result<()>
+pub fn answer_cases<'a, R: Input + Print + AllocGlobal, F>(rt: &'a R, answer: F) -> io::Result<()>
 where
     F: FnMut(&mut BufWriter<Printer<'a, R>>, Case<'_>) -> io::Result<()>,
     requires { F.IsAlwaysCallable answer }
 {
-    let mut text = Vec::new(rt.alloc());
-    rt.reader().take(TEXT_ROOM).read_to_end(&mut text)?;
+    let mut text = [0u8; TEXT_ROOM];
+    let n = first_bytes::read_into(&mut rt.reader(), &mut text)?;
     let mut out = BufWriter::new(rt.alloc(), io::writer(rt))?;
-    for line in text.split_inclusive(|byte| *byte == b'\n') {
-        let words = line.strip_suffix(b"\n").unwrap_or(line);
-        let case = Case {
-            line: words,
-            alloc: rt.alloc(),
-        };
-        answer(&mut out, case)?;
-    }
+    answer_lines(&mut out, &text[..n], answer)?;
     out.flush()
 }
 
@@ -175,7 +179,11 @@ pub fn print_ruling<W: Write>(out: &mut W, ruling: Result<(), Refusal>) -> io::R
 }
 
 pub fn print_refusal<W: Write>(out: &mut W, refusal: Refusal) -> io::Result<()> {
-    write!(out, " refused {} {}", refusal.rule.number(), refusal.record)
+    print_refused(out, refusal.rule.number(), refusal.record)
+}
+
+pub fn print_refused<W: Write>(out: &mut W, rule: u8, record: u16) -> io::Result<()> {
+    write!(out, " refused {rule} {record}")
 }
 
 // Prints a space and a number.

@@ -1,0 +1,9 @@
+-- `Case::numbers`: the list stays within its room.
+use Rattle.std.proofs.Common.{◌≤◌, length}
+use Rattle.trial_text.proofs.Case.numbers.Given as goal
+
+abbrev pub invariant-loop-piece : goal.invariant-loop-piece
+invariant-loop-piece l =
+    (goal.iterator-loop-piece).can_next l.piece-iterator
+    × (goal.iterator-loop-piece).is_finite l.piece-iterator
+    × (l.end ≤ length l.room)
