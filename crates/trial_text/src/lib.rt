@@ -126,8 +126,11 @@ fn put_piece(room: &mut [u8], end: usize, piece: &[u8]) -> usize
     let copies = parts.next().map_or(1, number_of);
     let mut end = end;
     for _ in 0..copies {
-        for pair in digits.chunks_exact(2) {
-            end = put(room, end, digit(pair[0]) * 16 + digit(pair[1]));
+        // a full room takes no more, and then a copy costs next to nothing
+        if end < room.len() {
+            for pair in digits.chunks_exact(2) {
+                end = put(room, end, digit(pair[0]) * 16 + digit(pair[1]));
+            }
         }
     }
     end
