@@ -50,13 +50,13 @@ module _ {file : List ℕ} {n : ℕ} {s : List ℕ} {v : ℕ} (room : SiteRoom f
       wrote_at n reach_word (gathered t d v) up n x (omega arith) first room.nodes.room (wrote_none n reach_word (gathered t d v) s) (rw eu at er) sum
       (λ p h other. sum_at p h ∙ sym (gathered_other t d pre v p (within below) other))
 
-  -- and the sum stays small
-  pub passed_small : {up : ℕ} → up ≡ t.parent v → word_of s up reach_word + word_of s v reach_word < 2 ^ 64
+  -- the parent is a node, and the sum stays small
+  pub passed_small : {up : ℕ} → up ≡ t.parent v → (up < n) × (word_of s up reach_word + word_of s v reach_word < 2 ^ 64)
   passed_small {up} eu =
       let below = room.below in
       let first : up < n = omega (arith, room_parent room) in
       let bound : (p : ℕ) → p < n → gathered t d (suc v) p ≤ most_reach = λ p h. gathered_bound t d (room_sound room.nodes) p v (within h) (within below) in
-      omega (arith, sum_at up first, sum_at v below, bound up first, bound v below)
+      (first, omega (arith, sum_at up first, sum_at v below, bound up first, bound v below))
 
 module _ {file : List ℕ} {n : ℕ} {o s : List ℕ} (room : NodeRoom file n o)
     (own : Wrote n reach_word (cachable (demand_of file)) n o s) where

@@ -35,6 +35,11 @@ module _ (file : List ℕ) where
         let ok = (answered_sizes e).accepted in
         e ∙ ap (λ v. answer v (sizes_of file)) (ok ∙ passes _ (sym ok) h)
 
+    -- and where the scratch is too short, rule 13 refuses
+    pub scratch_short_lem : (words : ℕ) → leb (scratch_words file) words ≡ false → refused 13 0 ≡ answer (lent_verdict file words) (sizes_of file)
+    unfolding lent_verdict
+    scratch_short_lem words h = rw ((answered_sizes e).accepted, h)
+
   pub words_of_refused_lem : (q i : ℕ) → refused q i ≡ answer (file_verdict file) (sizes_of file) → 0 ≡ words_asked file
   unfolding words_asked accepted
   words_of_refused_lem q i e = rw (refused_broken (file_verdict file) (sizes_of file) e)

@@ -14,7 +14,11 @@ use Rattle.best_rows.specs.Best.{cap, own_choice, node_best}
 use Rattle.best_rows.proofs.Least.{better_min}
 use Rattle.best_rows.proofs.Best.{cost_if_is, cost_if_over}
 use Rattle.lines.specs.Line.{entry_of, NodeParts, pay, children, line_cost_if, line_takes, line_node, line_own, empty_best}
-use Rattle.lines.proofs.Entries.{entry_inside, entry_past}
+use Rattle.lines.proofs.Entries.{entry_inside, entry_past, stored_within}
+
+-- the first entry of its children's line, where it is no cache
+pub first_within_lem : {cached uncached : List ℕ} {member other : ℕ} → NodeParts cached uncached member other → get_or uncached 0 0 ≤ cap
+first_within_lem {uncached = uncached} parts = stored_within uncached 0 parts.uncached_line parts.uncached_line.some
 
 module _ (cached uncached : List ℕ) (member other n : ℕ) where
   pub cost_without_caches : n ≡ 0 → line_cost_if cached uncached member other n true ≡ cap

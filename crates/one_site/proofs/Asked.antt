@@ -1,11 +1,11 @@
 -- The questions of the call, one after the other: the rules about the file, rule 16, rule 13.
 use mathlib.Core.Path.{◌≡◌, refl, sym, ap, ◌∙◌}
-use mathlib.Core.Bool.{Bool, ◌&&◌}
+use mathlib.Core.Bool.{Bool, false, ◌&&◌}
 use mathlib.Core.List.{List}
-use Prim.Native.Nat.{ℕ}
+use Prim.Native.Nat.{ℕ, ◌<◌}
 use lib.Dec.{leb, ltb}
 use lib.ListN.{length}
-use borrow.Author.Tests.{leb-true}
+use borrow.Author.Tests.{leb-true, lt-leb}
 use Rattle.std.specs.Result.{IsErrAnd}
 use Rattle.std.specs.Prelude.{Result}
 use Rattle.laws.specs.Fronts.{FrontOnly}
@@ -25,6 +25,13 @@ use Rattle.lent.proofs.Asked.{answered_sizes}
 use Rattle.one_site.specs.declared.Leasts.{Leasts}
 use Rattle.one_site.specs.Site.{site_verdict, AskedSite}
 use Rattle.one_site.specs.Answers.{both_of, leasts_of}
+
+-- ---- rule 16, as tests in code ask it
+
+module _ (v n : ℕ) (rest : Bool) where
+  -- the server is no site
+  pub node_zero_lem : v < 1 → false ≡ (leb 1 v && ltb v n && rest)
+  node_zero_lem h = rw (lt-leb 1 v h)
 
 -- ---- what the check answers
 

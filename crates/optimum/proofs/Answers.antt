@@ -42,14 +42,21 @@ module _ {file totals rows : List ℕ} (l : Buffers file totals rows) where
 
 module _ (file : List ℕ) (memory : PlanMemory) where
   -- a refusal changes nothing
+  refused_whole : {q i : ℕ} → broken q i ≡ plan_verdict file memory → PlanCall file memory (broken q i) memory
+  refused_whole e = record { verdict = e; scratch_after = refl; totals_after = refl; rows_after = refl }
+
   pub plan_refused : (r : Result ⊤ Refusal) (e : Refusal) → IsErrAnd r (λ y. y ≡ e) → broken_by e ≡ plan_verdict file memory
       → PlanCall file memory (verdict_of r) memory
-  plan_refused r e h k = rw (refused_as r e h refl) (record { verdict = k; scratch_after = refl; totals_after = refl; rows_after = refl })
+  plan_refused r e h k = rw (refused_as r e h refl) (refused_whole k)
 
   -- the rules before rule 14 refuse
-  pub plan_before_buffers : {q i : ℕ} → refused q i ≡ answer (lent_verdict file (length memory.scratch)) (sizes_of file) → broken q i ≡ plan_verdict file memory
+  pub plan_refused_lem : {q i : ℕ} → refused q i ≡ answer (lent_verdict file (length memory.scratch)) (sizes_of file)
+      → PlanCall file memory (broken q i) memory
   unfolding plan_verdict
-  plan_before_buffers e = refused_before_buffers file memory.scratch (plan_buffers_long file memory.totals memory.rows) e
+  plan_refused_lem e = refused_whole (refused_before_buffers file memory.scratch (plan_buffers_long file memory.totals memory.rows) e)
+
+  pub plan_before_buffers : {q i : ℕ} → refused q i ≡ answer (lent_verdict file (length memory.scratch)) (sizes_of file) → broken q i ≡ plan_verdict file memory
+  plan_before_buffers e = (plan_refused_lem e).verdict
 
   module _ {sizes : code.Tree} (e : answered sizes ≡ answer (lent_verdict file (length memory.scratch)) (sizes_of file)) where
     -- rule 14, as it is asked with the sizes found

@@ -145,7 +145,8 @@ module _ {file : List ℕ} {n : ℕ} {l : List Place} (room : Entries file n l) 
     pub record_there : InFile file v
     record_there = accepted_in_file file room.accepted v (omega (arith, room.count))
 
-    parent_first_lem : p < v
+    -- its parent comes before it
+    pub parent_first_lem : p < v
     parent_first_lem = omega (arith, parent_earlier tree sound.preorder v (omega arith))
 
     sum_is_row : {counts : ℕ → ℕ} → RowsCounted tree counts v → 1 + counts v + counts p ≡ row_size (row_at tree v)

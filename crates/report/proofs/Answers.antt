@@ -49,23 +49,30 @@ both_written {file} {sizes} l f t r ran =
 
 module _ (file : List ℕ) (memory : ReportMemory) where
   -- a refusal changes nothing
-  pub report_refused : (r : Result ⊤ Refusal) (e : Refusal) → IsErrAnd r (λ y. y ≡ e) → broken_by e ≡ report_verdict file memory
-      → ReportCall file memory (verdict_of r) memory
-  report_refused r e h k =
-      rw (refused_as r e h refl) (record {
-        verdict = k;
+  refused_whole : {q i : ℕ} → broken q i ≡ report_verdict file memory → ReportCall file memory (broken q i) memory
+  refused_whole e =
+      record {
+        verdict = e;
         scratch_after = refl;
         plan_totals_after = refl;
         plan_rows_after = refl;
         greedy_totals_after = refl;
         greedy_nodes_after = refl;
         demand_three = λ passes. absurd (broken≢passed passes);
-      })
+      }
+
+  pub report_refused : (r : Result ⊤ Refusal) (e : Refusal) → IsErrAnd r (λ y. y ≡ e) → broken_by e ≡ report_verdict file memory
+      → ReportCall file memory (verdict_of r) memory
+  report_refused r e h k = rw (refused_as r e h refl) (refused_whole k)
 
   -- the rules before rule 14 refuse
-  pub report_before_buffers : {q i : ℕ} → refused q i ≡ answer (lent_verdict file (length memory.scratch)) (sizes_of file) → broken q i ≡ report_verdict file memory
+  pub report_refused_lem : {q i : ℕ} → refused q i ≡ answer (lent_verdict file (length memory.scratch)) (sizes_of file)
+      → ReportCall file memory (broken q i) memory
   unfolding report_verdict
-  report_before_buffers e = refused_before_buffers file memory.scratch (report_buffers_long file memory) e
+  report_refused_lem e = refused_whole (refused_before_buffers file memory.scratch (report_buffers_long file memory) e)
+
+  pub report_before_buffers : {q i : ℕ} → refused q i ≡ answer (lent_verdict file (length memory.scratch)) (sizes_of file) → broken q i ≡ report_verdict file memory
+  report_before_buffers e = (report_refused_lem e).verdict
 
   module _ {sizes : code.Tree} (e : answered sizes ≡ answer (lent_verdict file (length memory.scratch)) (sizes_of file)) where
     -- rule 14, as it is asked with the sizes found

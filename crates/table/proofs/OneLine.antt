@@ -1,9 +1,10 @@
 -- Laws of one line: what it is made from, how many entries its parts have, and that what is made is the line.
 use mathlib.Core.Path.{◌≡◌, refl, sym, ap, ◌∙◌}
 use mathlib.Core.List.{List, ◌++◌, map}
-use mathlib.Core.Logic.{⊎_elim}
+use mathlib.Core.Logic.{◌⊎◌, inl, inr, ⊎_elim}
 use Prim.Native.Nat.{ℕ, ◌+◌, ◌-◌, ◌≤◌, ◌<◌, ◌^◌}
 use native.Mathlib.Nat.{add-sub_cancel_left}
+use native.Mathlib.Decide.{ℕ_discrete}
 use native.Mathlib.Omega.{arith}
 use lib.ListN.{length, length-append, take, drop}
 use lib.Seq.{length-take-le, take_at, drop_at}
@@ -24,10 +25,10 @@ use Rattle.lines.specs.Line.{most_width, LineParts, NodeParts, line_own, line_be
 use Rattle.lines.proofs.HeldBest.{holds_empty}
 use Rattle.lines.proofs.Row.{best_is_own, leaf_is_own}
 use Rattle.table.specs.Table.{line_at, InTable, line_in, place_of, line_for, LineToFill, ChildAndSibling, Beside, with_line}
-use Rattle.table.proofs.Places.{width_some, place_next, place_from, place_within, words_before}
+use Rattle.table.proofs.Places.{line_none, width_some, place_next, place_from, place_within, words_before}
 use Rattle.table.proofs.Lines.{width_within, siblings_narrower, last_width, leaf_width, best_at_empty, line_read, line_put, parts_read}
 use Rattle.table.proofs.Room.{width_none, room_sound, room_width, room_line, room_place}
-use Rattle.table.proofs.Reading.{length_line, own_place, siblings_place, lines_hold_best}
+use Rattle.table.proofs.Reading.{length_line, own_place, children_place, siblings_place, lines_hold_best}
 
 -- the front of an array that a rule's values were stored in
 pub own_front : (f : ℕ → ℕ) (zeros l : List ℕ) (n : ℕ) → n ≤ length zeros → l ≡ map f (range 0 (length (take n zeros)))
@@ -191,17 +192,52 @@ module _ {file : List ℕ} {wish : Wish} {s : List ℕ} {places : List Place} {v
         ))
         stands
 
+    -- word 0 is before v's line
+    line_first : x ≡ 0 → (0 < line_at places v a) × (width_in places x ≡ 1)
+    line_first e =
+        let room = r.table.stored.room in (
+          omega (arith, room_line room v a r.served.node, words_before (tree_of file) (budget_of file) v r.served.site a, (room_sound room).some),
+          room_width room x (omega (arith, e, (room_sound room).some)) ∙ rw e (width_none file),
+        )
+
     pub beside : (before line behind : List ℕ) {w b : ℕ} → s ≡ before ++ (line ++ behind) → length before ≡ line_at places v a → length line ≡ width_in places v
         → w ≡ width_in places v → InTable places s x b → length s < 2 ^ 64 → Beside places (length before) w (length behind) x b
     beside before line behind {w} {b} cut at wide f there fits =
-        let room = r.table.stored.room in
         let long : length s ≡ length before + (length line + length behind) = rw (cut, length-append, length-append) in
         record {
           noted = there.noted;
-          first = λ e. (
-            omega (arith, at, room_line room v a r.served.node, words_before (tree_of file) (budget_of file) v r.served.site a, (room_sound room).some),
-            room_width room x (omega (arith, e, (room_sound room).some)) ∙ rw e (width_none file),
-          );
+          first = λ e. rw at (line_first e);
           behind = λ some. (omega (arith, at, f, line_behind b some), omega (arith, there.inside, long, wide, f));
           small = omega (arith, there.inside, fits);
         }
+
+  -- ---- a row of one part: v's line and those of its children that it is made from
+
+  abbrev apart : ℕ → ℕ → Type 0
+  apart x b = (line_at places x b + width_in places x ≤ line_at places v a) ⊎ (line_at places v a + width_in places v ≤ line_at places x b)
+
+  line_apart : {p x : ℕ} → NoneOrChild (tree_of file) v p x → (b : ℕ) → apart x b
+  line_apart {x = x} stands b = elim (ℕ_discrete x 0) [
+    | yes e ↦ inl (omega (arith, line_none places b e, line_first stands e))
+    | no e ↦ inr (line_behind stands b (omega arith))
+  ]
+
+  -- it is at most one entry longer than theirs, all three are in the scratch, and it has no entry in common with them
+  pub last_place_lem : {child deep : ℕ} → ChildAndSibling s v child 0 → deep ≡ word_of s v depth_word
+      → NodeParts (line_in places s child deep) (line_in places s child a) member other
+      × (0 < width_in places v) × (width_in places v ≤ width_in places child + 1)
+      × InTable places s v a × InTable places s child deep × InTable places s child a × apart child deep × apart child a
+  last_place_lem {deep = deep} near e =
+      let own = own_place r.table r.served filled_before near.0 e in
+      let under = children_place r.table r.served filled_before near.0 in
+      let stands = first_child_is near.0 in
+      let fits = last_fits near e refl refl refl refl refl in (
+        (parts near e refl refl refl).node_parts,
+        fits.0,
+        omega (arith, fits.1, length_line own),
+        line_in_lem,
+        own,
+        under,
+        line_apart stands deep,
+        line_apart stands a,
+      )

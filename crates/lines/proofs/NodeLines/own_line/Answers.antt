@@ -6,13 +6,12 @@ use lib.ListN.{length, length-set}
 use Rattle.laws.proofs.FrontValues.{entries_next}
 use Rattle.best_rows.specs.Best.{cap}
 use Rattle.lines.proofs.Entries.{stored_within, by_entries}
-use Rattle.lines.proofs.Node.{own_first, own_next, own_last}
+use Rattle.lines.proofs.Node.{first_within_lem, own_first, own_next, own_last}
 use Rattle.lines.proofs.NodeLines.own_line.Goals as goal
 
 pub own_entry-requires : goal.own_entry-requires
 unfolding cap
-own_entry-requires c = let parts = c.args.self.now.parts in
-    (parts.pays.0, parts.pays.1, omega arith, stored_within _ 0 parts.uncached_line parts.uncached_line.some)
+own_entry-requires c = let parts = c.args.self.now.parts in (parts.pays.0, parts.pays.1, omega arith, first_within_lem parts)
 
 pub loop-n-init : goal.loop-n-init
 unfolding cap
