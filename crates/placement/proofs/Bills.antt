@@ -9,10 +9,11 @@ use lib.Dec.{leb}
 use borrow.Author.Tests.{leb-true}
 use Rattle.std.specs.Prelude.{Result}
 use Rattle.std.specs.Result.{IsErrAnd}
+use Rattle.std.proofs.lemmas.Result.{err_from_is_err_and}
 use Rattle.laws.proofs.Stores.{sets_front}
 use Rattle.model.specs.File.{tree_of, count_of}
-use Rattle.model.specs.Rules.{passed, ask, ask_buffers, file_verdict, is_set}
-use Rattle.model.specs.Calls.{answered, BillMemory, bill_buffers_long, bill_verdict, serving_nodes, link_loads, BillCall}
+use Rattle.model.specs.Rules.{passed, broken, ask, ask_buffers, file_verdict, is_set}
+use Rattle.model.specs.Calls.{answered, refused, BillMemory, bill_buffers_long, bill_verdict, serving_nodes, link_loads, BillCall}
 use Rattle.model.proofs.Accepted.{accepted_sound}
 use Rattle.model.proofs.Written.{length_serving_nodes, length_link_loads}
 use Rattle.model.proofs.Verdicts.{ask_passed}
@@ -20,7 +21,7 @@ use Rattle.units.specs.declared.Total.{Total}
 use Rattle.tree_file.specs.declared.rules.Refusal.{Refusal}
 use Rattle.tree_file.specs.Refusals.{broken_by}
 use Rattle.tree_file.proofs.Accepted.{accepted_long, accepted_in_file}
-use Rattle.tree_file.proofs.Rulings.{both_pass, answered_as}
+use Rattle.tree_file.proofs.Rulings.{both_pass}
 use Rattle.placement.specs.Passes.{AcceptedFile, Billable, Walkable}
 use Rattle.placement.specs.Answers.{bill_answer, BillWritten}
 
@@ -44,10 +45,12 @@ asked_le q i a b h = leb-true a b (ask_passed q i (leb a b) (sym h))
 
 module _ (file k : List ℕ) (memory : BillMemory) where
   -- a rule is broken
+  bill_refused_lem : {q i : ℕ} → bill_verdict file k memory ≡ broken q i → BillCall file k memory (refused q i) memory
+  bill_refused_lem e = record { answers = rw e; servings_after = rw e; loads_after = rw e }
+
   pub bill_refused : (r : Result Total Refusal) (e : Refusal) → IsErrAnd r (λ y. y ≡ e) → broken_by e ≡ bill_verdict file k memory
       → BillCall file k memory (bill_answer r) memory
-  bill_refused r e h breaks =
-      record { answers = answered_as _ r e _ h breaks; servings_after = rw (sym breaks); loads_after = rw (sym breaks) }
+  bill_refused r e h breaks = let p = err_from_is_err_and r h in rw (p.1, p.2) (bill_refused_lem (sym breaks))
 
   module _ {n : ℕ} (nodes : n ≡ count_of file) (h : passed ≡ ask 14 0 (leb n (length memory.servings))) (g : passed ≡ ask 14 0 (leb n (length memory.loads))) where
     pub buffers_walkable : AcceptedFile file n → Walkable file n memory.servings memory.loads
