@@ -1,6 +1,6 @@
 -- The report call, answer by answer: a refusal writes nothing, and what is written meets demand 3.
 use mathlib.Core.Path.{◌≡◌, refl}
-use mathlib.Core.Bool.{Bool, true, false, ◌&&◌}
+use mathlib.Core.Bool.{Bool, true, ◌&&◌}
 use mathlib.Core.List.{List}
 use Prim.Native.Nat.{ℕ, suc, ◌*◌}
 use lib.Dec.{leb}

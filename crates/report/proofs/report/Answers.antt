@@ -1,5 +1,5 @@
 -- `report`: a refusal changes nothing, and an accepted call leaves both answers, which meet demand 3.
-use mathlib.Core.Path.{◌≡◌, sym, ◌∙◌}
+use mathlib.Core.Path.{sym, ◌∙◌}
 use Rattle.model.proofs.Verdicts.{ask_passed}
 use Rattle.tree_file.proofs.Accepted.{accepted_long}
 use Rattle.tree_file.proofs.Rulings.{asked}
