@@ -41,9 +41,10 @@ module _ (file : List ℕ) (target : ℕ) (memory : LeastBudgetMemory) where
     unfolding least_budget_verdict
     row_decides = buffers_decide file memory.scratch _ e (rw (lent_told file e).2)
 
-    pub row_refused : (r : Result (Option ℕ) Refusal) (x : Refusal) → IsErrAnd r (λ y. y ≡ x)
-        → broken_by x ≡ ask 14 0 (leb sizes.budget (length memory.row)) → LeastBudgetCall file target memory (budget_found r) memory
-    row_refused r x h k = refused_whole r x h (k ∙ row_decides)
+    pub row_refused : (x : Refusal) → broken_by x ≡ ask 14 0 (leb sizes.budget (length memory.row))
+        → LeastBudgetCall file target memory (refused (rule_number x.rule) x.record) memory
+    row_refused x k = let e = k ∙ row_decides in
+        record { answers = rw (← e) refl; scratch_after = rw (← e) refl; row_after = rw (← e) }
 
     module _ (h : passed ≡ ask 14 0 (leb sizes.budget (length memory.row))) where
       pub target_long : budget_of file ≤ length memory.row

@@ -82,6 +82,9 @@ pub fn from_target(
     ensures { LeastBudgetCall file.now target.0 record { scratch = scratch.entry.now; row = row.old } (budget_found result) record { scratch = scratch.exit.now; row = row.new } }
 {
     let tree = lent::check(file, scratch.len())?;
-    Rule::Buffers.ask(tree.budget <= row.len())?;
-    Ok(find(&TreeFile::of(file), tree, target, scratch, row))
+    // a match, so that what a row that is too short is answered stands by itself
+    match Rule::Buffers.ask(tree.budget <= row.len()) {
+        Ok(()) => Ok(find(&TreeFile::of(file), tree, target, scratch, row)),
+        Err(refusal) => Err(refusal),
+    }
 }

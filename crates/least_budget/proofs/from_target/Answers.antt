@@ -7,8 +7,8 @@ use Rattle.least_budget.proofs.from_target.Goals as goal
 pub returns-in_err-tree : goal.returns-in_err-tree
 returns-in_err-tree c = target_refused _ _ _ _ _ c.from_residual.ensures.1 c.in_err-tree.ensures
 
-pub returns-in_err-ask : goal.returns-in_err-ask
-returns-in_err-ask c = row_refused _ _ _ c.in_ok-tree.ensures _ _ c.from_residual-in_err-ask.ensures.1 c.in_err-ask.ensures
+pub returns-in-Err : goal.returns-in-Err
+returns-in-Err c = row_refused _ _ _ c.in_ok-tree.ensures _ c.in-Err.ensures
 
 pub of-requires : goal.of-requires
 of-requires c = accepted_long _ (lent_told _ c.in_ok-tree.ensures).0
@@ -17,10 +17,10 @@ pub find-requires : goal.find-requires
 find-requires c =
     rw c.of.ensures (record {
       lent_room = lent_room_lem _ c.args.scratch.now c.in_ok-tree.ensures;
-      file_in_bounds = target_long c.args.file.now c.args.target.0 record { scratch = c.args.scratch.now; row = c.args.row.now } c.in_ok-tree.ensures c.in_ok-ask.ensures;
+      file_in_bounds = target_long c.args.file.now c.args.target.0 record { scratch = c.args.scratch.now; row = c.args.row.now } c.in_ok-tree.ensures c.in-Ok.ensures;
     })
 
-pub returns : goal.returns
-returns c =
-    target_answered _ _ _ c.in_ok-tree.ensures c.in_ok-ask.ensures (rw c.of.ensures at c.find.ensures.result_value)
+pub returns-in-Ok : goal.returns-in-Ok
+returns-in-Ok c =
+    target_answered _ _ _ c.in_ok-tree.ensures c.in-Ok.ensures (rw c.of.ensures at c.find.ensures.result_value)
     (rw c.of.ensures at c.find.ensures.front_only) (rw c.of.ensures at c.find.ensures.row_after)
