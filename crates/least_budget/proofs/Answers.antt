@@ -6,10 +6,11 @@ use lib.Dec.{leb}
 use lib.ListN.{length}
 use borrow.Author.Tests.{leb-true}
 use Rattle.std.specs.Result.{IsErrAnd}
+use Rattle.std.proofs.lemmas.Result.{err_from_is_err_and}
 use Rattle.std.specs.Prelude.{Option, Result}
 use Rattle.laws.specs.Fronts.{FrontOnly}
 use Rattle.model.specs.File.{budget_of}
-use Rattle.model.specs.Rules.{passed, ask, scratch_words, long_enough}
+use Rattle.model.specs.Rules.{passed, broken, ask, scratch_words, long_enough}
 use Rattle.model.specs.Calls.{answered, refused, answer, Least, after}
 use Rattle.model.specs.LeastBudget.{least_budget, row_written, LeastBudgetMemory, least_budget_verdict, LeastBudgetCall}
 use Rattle.model.proofs.Verdicts.{ask_passed}
@@ -17,23 +18,22 @@ use Rattle.fields.specs.declared.Tree as code
 use Rattle.tree_file.specs.declared.rules.Refusal.{Refusal}
 use Rattle.tree_file.specs.Refusals.{rule_number, broken_by}
 use Rattle.tree_file.specs.Checks.{sizes_of}
-use Rattle.tree_file.proofs.Rulings.{answered_as}
 use Rattle.lent.specs.Lent.{lent_verdict}
 use Rattle.lent.proofs.Asked.{lent_told, refused_before_buffers, buffers_decide}
 use Rattle.least_budget.specs.Answers.{budget_or_none, budget_found}
 
 module _ (file : List ℕ) (target : ℕ) (memory : LeastBudgetMemory) where
-  refused_whole : (r : Result (Option ℕ) Refusal) (e : Refusal) → IsErrAnd r (λ y. y ≡ e) → broken_by e ≡ least_budget_verdict file memory
-      → LeastBudgetCall file target memory (budget_found r) memory
-  refused_whole r e h k =
-      record { answers = answered_as budget_or_none r e (least_budget file target) h k; scratch_after = rw (← k) refl; row_after = rw (← k) }
+  -- a refusal changes nothing
+  refused_whole : {q i : ℕ} → broken q i ≡ least_budget_verdict file memory → LeastBudgetCall file target memory (refused q i) memory
+  refused_whole e = record { answers = rw (← e) refl; scratch_after = rw (← e) refl; row_after = rw (← e) }
 
   -- the rules before rule 14 refuse
   pub target_refused : (r : Result (Option ℕ) Refusal) (e : Refusal) → IsErrAnd r (λ y. y ≡ e)
       → refused (rule_number e.rule) e.record ≡ answer (lent_verdict file (length memory.scratch)) (sizes_of file)
       → LeastBudgetCall file target memory (budget_found r) memory
   unfolding least_budget_verdict
-  target_refused r e h k = refused_whole r e h (refused_before_buffers file memory.scratch (long_enough (budget_of file) memory.row) k)
+  target_refused r e h k = let p = err_from_is_err_and r h in
+      rw (p.1, p.2) (refused_whole (refused_before_buffers file memory.scratch (long_enough (budget_of file) memory.row) k))
 
   module _ {sizes : code.Tree} (e : answered sizes ≡ answer (lent_verdict file (length memory.scratch)) (sizes_of file)) where
     -- then rule 14 decides, with the sizes found
@@ -43,8 +43,7 @@ module _ (file : List ℕ) (target : ℕ) (memory : LeastBudgetMemory) where
 
     pub row_refused : (x : Refusal) → broken_by x ≡ ask 14 0 (leb sizes.budget (length memory.row))
         → LeastBudgetCall file target memory (refused (rule_number x.rule) x.record) memory
-    row_refused x k = let e = k ∙ row_decides in
-        record { answers = rw (← e) refl; scratch_after = rw (← e) refl; row_after = rw (← e) }
+    row_refused x k = refused_whole (k ∙ row_decides)
 
     module _ (h : passed ≡ ask 14 0 (leb sizes.budget (length memory.row))) where
       pub target_long : budget_of file ≤ length memory.row
